@@ -1,0 +1,6 @@
+-- Laws of ℤ that the logic's library lacks, lowest first. No word of the domain stands in them.
+pub mod Difference
+pub mod Expression
+pub mod Ring
+pub mod Size
+pub mod Held

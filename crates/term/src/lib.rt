@@ -1,0 +1,46 @@
+// Document 01, "Digits and terms": a term has a symbol, an exponent (its left shift) and a sign. Rests on nothing.
+// The fields are private, so that nothing makes a term but the constructor, and every term is within the two limits.
+ghost use mathlib.Core.Path.{_≡_};
+ghost use Prim.Native.Nat.{_≤_};
+
+pub struct Term {
+    symbol: u16,
+    exponent: u8,
+    negative: bool,
+}
+
+impl Term {
+    // "Two limits belong to the term itself": the first is that of every shift too.
+    pub const MAX_EXPONENT: u8 = 15;
+
+    pub const MAX_SYMBOL: u16 = 259;
+
+    pub fn new(symbol: u16, exponent: u8, negative: bool) -> Term
+        requires { do ⌜ (symbol ≤ (← ⟦Term::MAX_SYMBOL⟧)) × (exponent ≤ (← ⟦Term::MAX_EXPONENT⟧)) ⌝ }
+        ensures { λ r. ⌜ r ≡ record { symbol = symbol; exponent = exponent; negative = negative } ⌝ }
+    {
+        Term {
+            symbol,
+            exponent,
+            negative,
+        }
+    }
+
+    pub fn symbol(self) -> u16
+        ensures { λ r. ⌜ r ≡ self .symbol ⌝ }
+    {
+        self.symbol
+    }
+
+    pub fn exponent(self) -> u8
+        ensures { λ r. ⌜ r ≡ self .exponent ⌝ }
+    {
+        self.exponent
+    }
+
+    pub fn negative(self) -> bool
+        ensures { λ r. ⌜ r ≡ self .negative ⌝ }
+    {
+        self.negative
+    }
+}
