@@ -1,0 +1,5 @@
+pub mod Rows
+pub mod Divisors
+pub mod Elimination
+pub mod Steps
+pub mod Marked
