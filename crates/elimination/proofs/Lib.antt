@@ -1,1 +1,4 @@
+pub mod Tests
+pub mod Same
+pub mod RowOrder
 pub mod Marked
