@@ -1,4 +1,5 @@
 pub mod Tests
 pub mod Same
 pub mod RowOrder
+pub mod Taken
 pub mod Marked
