@@ -4,4 +4,5 @@ pub mod RowOrder
 pub mod Taken
 pub mod Replaced
 pub mod Value
+pub mod Order
 pub mod Marked
