@@ -5,4 +5,6 @@ pub mod Taken
 pub mod Replaced
 pub mod Value
 pub mod Order
+pub mod Counts
+pub mod Pick
 pub mod Marked
