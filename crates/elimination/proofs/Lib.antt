@@ -7,4 +7,5 @@ pub mod Value
 pub mod Order
 pub mod Counts
 pub mod Pick
+pub mod Ties
 pub mod Marked

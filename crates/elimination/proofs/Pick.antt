@@ -27,7 +27,7 @@ all-pairs r (q ∷ rows) m p k = ⊎-elim
     (List·Memᴰ·cases-cons m)
 
 module _ (first : Divisor → Divisor → Bool) where
-  better-yes : (s t : Scored) → better first s t ≡ true → (t .score < s .score) ⊎ ((s .score ≡ t .score) × (first (s .divisor) (t .divisor) ≡ true))
+  pub better-yes : (s t : Scored) → better first s t ≡ true → (t .score < s .score) ⊎ ((s .score ≡ t .score) × (first (s .divisor) (t .divisor) ≡ true))
   better-yes s t h = ⊎-elim
       (λ l. inl (ltb-true (t .score) (s .score) l))
       (λ r. inr (
@@ -36,7 +36,7 @@ module _ (first : Divisor → Divisor → Bool) where
       ))
       (or-cases (ltb (t .score) (s .score)) (eqb (s .score) (t .score) && first (s .divisor) (t .divisor)) h)
 
-  better-no : (s t : Scored) → better first s t ≡ false → (s .score ≤ t .score) × (s .score ≡ t .score → first (s .divisor) (t .divisor) ≡ false)
+  pub better-no : (s t : Scored) → better first s t ≡ false → (s .score ≤ t .score) × (s .score ≡ t .score → first (s .divisor) (t .divisor) ≡ false)
   better-no s t h = (
     ltb-false (t .score) (s .score) (or-no-left _ (eqb (s .score) (t .score) && first (s .divisor) (t .divisor)) h),
     λ e. by-bool (first (s .divisor) (t .divisor))
@@ -46,7 +46,7 @@ module _ (first : Divisor → Divisor → Bool) where
   )
 
   -- x is not worse than s: it has a higher score, or the same and s is not before it
-  abbrev NotWorse : Scored → Scored → Type 0
+  abbrev pub NotWorse : Scored → Scored → Type 0
   NotWorse x s = (s .score < x .score) ⊎ ((s .score ≡ x .score) × (first (s .divisor) (x .divisor) ≡ false))
 
   module _ (rows : List Row) where
