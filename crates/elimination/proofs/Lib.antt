@@ -8,4 +8,5 @@ pub mod Order
 pub mod Counts
 pub mod Pick
 pub mod Ties
+pub mod End
 pub mod Marked
