@@ -9,4 +9,5 @@ pub mod Counts
 pub mod Pick
 pub mod Ties
 pub mod End
+pub mod Weights
 pub mod Marked

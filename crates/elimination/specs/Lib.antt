@@ -3,4 +3,5 @@ pub mod Divisors
 pub mod RowOrder
 pub mod Elimination
 pub mod Steps
+pub mod Weights
 pub mod Marked
