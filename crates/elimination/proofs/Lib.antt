@@ -10,4 +10,5 @@ pub mod Pick
 pub mod Ties
 pub mod End
 pub mod Weights
+pub mod Matrix
 pub mod Marked
