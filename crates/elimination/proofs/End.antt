@@ -14,7 +14,7 @@ use borrow.Author.Tests.{eqb-true, eqb-false, ltb-true, ltb-false, lt-ltb, le-lt
 use Rattle.elimination.specs.declared.Divisor.{Divisor}
 use Rattle.elimination.specs.Rows.{Row, Ascending, EachRow, matrixRows, plainCount}
 use Rattle.elimination.specs.Divisors.{Pair, overlap, taken, score}
-use Rattle.elimination.specs.Elimination.{TieOrder, Scored, pick, rowsAfter, Eliminated, ended, andThen, eliminate, elimination}
+use Rattle.elimination.specs.Elimination.{TieOrder, Scored, pick, rowsAfter, Eliminated, ended, andThen, eliminate, enoughSteps, elimination}
 use Rattle.elimination.specs.Steps.{Steps, end, step}
 use Rattle.elimination.proofs.Tests.{by-bool, clash}
 use Rattle.elimination.proofs.RowOrder.{Occurrence}
@@ -131,19 +131,19 @@ module _ (order : TieOrder) where
   pub elimination-steps : (inputs : ℕ) (rows : List Row)
       → Steps inputs rows (elimination order inputs rows .divisors) (elimination order inputs rows .replacements) (elimination order inputs rows .remainingRows)
   unfolding elimination
-  elimination-steps inputs rows = eliminate-steps (plainCount rows) inputs [] rows
+  elimination-steps inputs rows = eliminate-steps (enoughSteps rows) inputs [] rows
 
   -- it ends because the highest score is below 2
   pub elimination-ended : (inputs : ℕ) (rows : List Row) (d : Divisor) → score d (elimination order inputs rows .remainingRows) < 2
   unfolding elimination
-  elimination-ended inputs rows = eliminate-ended (plainCount rows) inputs [] rows (omega arith)
+  elimination-ended inputs rows = eliminate-ended (enoughSteps rows) inputs [] rows (omega arith)
 
   -- within 252 steps, for 8 by 8 at the most and 16 positions
   pub elimination-within : (n : ℕ) (m : List (List ℤ)) → Columns n m → n ≤ 8 → length m ≤ 8
       → elimination order n (matrixRows 16 m) ≡ eliminate order 252 n [] (matrixRows 16 m)
   unfolding elimination
   elimination-within n m c hn hm =
-      enough-fuel (plainCount (matrixRows 16 m)) 252 n [] (matrixRows 16 m) (omega arith) (omega (arith, plain-within n m c hn hm))
+      enough-fuel (enoughSteps (matrixRows 16 m)) 252 n [] (matrixRows 16 m) (omega arith) (omega (arith, plain-within n m c hn hm))
 
 -- ---- where every score is below 2, any two occurrences of one divisor overlap: they are in the same row and share a term
 
