@@ -3,9 +3,9 @@
 -- Assumes nothing.
 use Prim.Native.Nat.{ℕ, zero, suc, _+_, _*_, _≤_, _<_}
 use mathlib.Core.Path.{_≡_, refl, sym, _∙_, ap, subst}
-use mathlib.Core.Bool.{Bool, true, false}
-use mathlib.Core.Logic.{_⊎_, inl, inr, ⊎-elim}
-use mathlib.Core.List.{List, [], _∷_, _++_, List·Memᴰ, List·Memᴰ·cases-cons, List·Memᴰ·not-nil, List·Memᴰ·eq-of-singleton}
+use mathlib.Core.Bool.{true, false}
+use mathlib.Core.Logic.{⊎-elim}
+use mathlib.Core.List.{List, [], _∷_, _++_, List·Memᴰ·cases-cons, List·Memᴰ·not-nil, List·Memᴰ·eq-of-singleton}
 use native.Mathlib.Omega.{arith}
 use lib.Dec.{eqb, ltb}
 use lib.IntN.{ℤ}
@@ -16,9 +16,9 @@ use Rattle.elimination.specs.Rows.{Row, Ascending, EachRow, matrixRows, 
 use Rattle.elimination.specs.Divisors.{Pair, overlap, taken, score}
 use Rattle.elimination.specs.Elimination.{TieOrder, Scored, pick, rowsAfter, Eliminated, ended, andThen, eliminate, enoughSteps, elimination}
 use Rattle.elimination.specs.Steps.{Steps, end, step}
-use Rattle.elimination.proofs.Tests.{by-bool, clash}
+use Rattle.elimination.proofs.Tests.{by-bool}
 use Rattle.elimination.proofs.RowOrder.{Occurrence}
-use Rattle.elimination.proofs.Taken.{NoOverlap, Choice, overlap-turned, taken-most}
+use Rattle.elimination.proofs.Taken.{overlap-turned, taken-most}
 use Rattle.elimination.proofs.Order.{Columns}
 use Rattle.elimination.proofs.Counts.{plain-after, plain-within}
 use Rattle.elimination.proofs.Pick.{pick-highest, pick-score}

@@ -2,18 +2,18 @@
 -- the pick, whatever way the pairs are gone through. Document 01's order is such an order.
 -- Assumes nothing.
 use Prim.Native.Nat.{ℕ, _≤_, _<_}
-use mathlib.Core.Path.{_≡_, refl, sym, _∙_, ap, ap₂}
+use mathlib.Core.Path.{_≡_, refl, sym, _∙_, ap}
 use mathlib.Core.Logic.{_⊎_, inl, inr, ⊎-elim, _↔_}
-use mathlib.Core.Bool.{Bool, true, false, not, _&&_, _||_, true≢false, false≢true}
-use mathlib.Core.List.{List, [], _∷_, List·Memᴰ, List·Memᴰ·head, List·Memᴰ·tail, List·Memᴰ·cases-cons, List·Memᴰ·not-nil}
+use mathlib.Core.Bool.{Bool, true, false, not, _&&_, true≢false, false≢true}
+use mathlib.Core.List.{List, [], _∷_, List·Memᴰ, List·Memᴰ·cases-cons, List·Memᴰ·not-nil}
 use native.Mathlib.Omega.{arith}
 use lib.Dec.{eqb, ltb}
 use borrow.Author.Tests.{eqb-true, eq-eqb, ltb-true, ltb-false, lt-ltb, not-true}
 use Rattle.elimination.specs.declared.Divisor.{Divisor}
 use Rattle.elimination.specs.Rows.{Row}
 use Rattle.elimination.specs.Divisors.{Pair}
-use Rattle.elimination.specs.Elimination.{Scored, scored, better, bestFrom, bestOf, allPairs, noPairs, pick, smaller, before}
-use Rattle.elimination.proofs.Tests.{by-bool, clash, and-left, and-right, and-both, or-left, or-right, or-cases, or-no-left, or-no-right}
+use Rattle.elimination.specs.Elimination.{Scored, scored, better, bestFrom, bestOf, allPairs, pick, smaller, before}
+use Rattle.elimination.proofs.Tests.{by-bool, clash, and-left, and-right, and-both, or-left, or-right, or-cases, or-no-left}
 use Rattle.elimination.proofs.Pick.{better-yes, better-no, NotWorse, pick-is}
 
 pub record StrictTotal (first : Divisor → Divisor → Bool) : Type 0 where

@@ -7,7 +7,7 @@ use mathlib.Core.List.{List, [], _∷_, map}
 use lib.IntN.{ℤ, pos, negsuc}
 use lib.ListN.{length}
 use Rattle.elimination.specs.declared.Divisor.{Divisor}
-use Rattle.elimination.specs.Rows.{Row, rowFrom, matrixRows, plainCount}
+use Rattle.elimination.specs.Rows.{rowFrom, matrixRows, plainCount}
 use Rattle.elimination.specs.Divisors.{coDivisor, taken}
 use Rattle.elimination.specs.Elimination.{Eliminated, before, pick, matrixElimination}
 
