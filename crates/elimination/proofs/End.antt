@@ -3,7 +3,7 @@
 -- Assumes nothing.
 use Prim.Native.Nat.{ℕ, zero, suc, _+_, _*_, _≤_, _<_}
 use mathlib.Core.Path.{_≡_, refl, sym, _∙_, ap, subst}
-use mathlib.Core.Bool.{true, false}
+use mathlib.Core.Bool.{Bool, true, false}
 use mathlib.Core.Logic.{⊎-elim}
 use mathlib.Core.List.{List, [], _∷_, _++_, List·Memᴰ·cases-cons, List·Memᴰ·not-nil, List·Memᴰ·eq-of-singleton}
 use native.Mathlib.Omega.{arith}
@@ -137,6 +137,14 @@ module _ (order : TieOrder) where
   pub elimination-ended : (inputs : ℕ) (rows : List Row) (d : Divisor) → score d (elimination order inputs rows .remainingRows) < 2
   unfolding elimination
   elimination-ended inputs rows = eliminate-ended (enoughSteps rows) inputs [] rows (omega arith)
+
+  -- whichever order it is measured by
+  pub elimination-highest : (inputs : ℕ) (rows : List Row) (first : Divisor → Divisor → Bool) → pick first (elimination order inputs rows .remainingRows) .score < 2
+  elimination-highest inputs rows first =
+      let rest : List Row = elimination order inputs rows .remainingRows in
+      by-bool (ltb (pick first rest .score) 2)
+      (λ e. ltb-true (pick first rest .score) 2 e)
+      (λ e. absurd (omega (arith, ltb-false (pick first rest .score) 2 e, pick-score first rest (ltb-false (pick first rest .score) 2 e), elimination-ended inputs rows (pick first rest .divisor))))
 
   -- within 252 steps, for 8 by 8 at the most and 16 positions
   pub elimination-within : (n : ℕ) (m : List (List ℤ)) → Columns n m → n ≤ 8 → length m ≤ 8
