@@ -9,7 +9,7 @@ use mathlib.Core.List.{List, [], _∷_, _++_, List·Memᴰ·cases-cons, List·Me
 use native.Mathlib.Omega.{arith}
 use lib.Dec.{eqb, ltb}
 use lib.IntN.{ℤ}
-use lib.ListN.{length, getD}
+use lib.ListN.{length}
 use borrow.Author.Tests.{eqb-true, eqb-false, ltb-true, ltb-false, lt-ltb, le-ltb}
 use Rattle.elimination.specs.declared.Divisor.{Divisor}
 use Rattle.elimination.specs.Rows.{Row, Ascending, EachRow, matrixRows, plainCount}
@@ -17,7 +17,7 @@ use Rattle.elimination.specs.Divisors.{Pair, overlap, taken, score}
 use Rattle.elimination.specs.Elimination.{TieOrder, Scored, pick, rowsAfter, Eliminated, ended, andThen, eliminate, enoughSteps, elimination}
 use Rattle.elimination.specs.Steps.{Steps, end, step}
 use Rattle.elimination.proofs.Tests.{by-bool}
-use Rattle.elimination.proofs.RowOrder.{Occurrence}
+use Rattle.elimination.proofs.RowOrder.{Occurrence, rowAt}
 use Rattle.elimination.proofs.Taken.{overlap-turned, taken-most}
 use Rattle.elimination.proofs.Order.{Columns}
 use Rattle.elimination.proofs.Counts.{plain-after, plain-within}
@@ -154,9 +154,6 @@ module _ (order : TieOrder) where
       enough-fuel (enoughSteps (matrixRows 16 m)) 252 n [] (matrixRows 16 m) (omega arith) (omega (arith, plain-within n m c hn hm))
 
 -- ---- where every score is below 2, any two occurrences of one divisor overlap: they are in the same row and share a term
-
-abbrev pub rowAt : List Row → ℕ → Row
-rowAt rows i = getD rows i []
 
 ascending-at : (rows : List Row) → EachRow Ascending rows → (i : ℕ) → Ascending (rowAt rows i)
 ascending-at [] a i = tt
