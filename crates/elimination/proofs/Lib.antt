@@ -1,0 +1,16 @@
+pub mod Tests
+pub mod Same
+pub mod RowOrder
+pub mod Taken
+pub mod Visit
+pub mod Replaced
+pub mod Value
+pub mod Order
+pub mod Counts
+pub mod Pick
+pub mod Ties
+pub mod End
+pub mod Weights
+pub mod Matrix
+pub mod Elimination
+pub mod Marked

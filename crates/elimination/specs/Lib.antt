@@ -1,0 +1,8 @@
+pub mod Rows
+pub mod Divisors
+pub mod Visit
+pub mod RowOrder
+pub mod Elimination
+pub mod Steps
+pub mod Weights
+pub mod Marked
