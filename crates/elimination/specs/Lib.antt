@@ -3,3 +3,4 @@ pub mod Divisors
 pub mod Elimination
 pub mod Steps
 pub mod Marked
+pub mod Lookup
