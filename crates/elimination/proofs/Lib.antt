@@ -1,1 +1,7 @@
+pub mod Tests
+pub mod Same
+pub mod RowOrder
+pub mod Taken
+pub mod Replaced
+pub mod Value
 pub mod Marked
