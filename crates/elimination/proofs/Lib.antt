@@ -4,4 +4,6 @@ pub mod RowOrder
 pub mod Taken
 pub mod Replaced
 pub mod Value
+pub mod LookupSigns
+pub mod LookupTaken
 pub mod Marked
