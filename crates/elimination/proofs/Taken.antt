@@ -76,11 +76,11 @@ no-overlap q p h =
     let h₂ : a || b ≡ false = or-no-left (a || b) c h₃ in
     (or-no-left a b h₂, or-no-right a b h₂, or-no-right (a || b) c h₃, or-no-right (a || b || c) d h)
 
-any-yes : (q p : Pair) (ps : List Pair) → overlap q p ≡ true → overlapsAny q (p ∷ ps) ≡ true
+pub any-yes : (q p : Pair) (ps : List Pair) → overlap q p ≡ true → overlapsAny q (p ∷ ps) ≡ true
 unfolding overlapsAny
 any-yes q p ps e = rw (e, overlapsAny)
 
-any-no : (q p : Pair) (ps : List Pair) → overlap q p ≡ false → overlapsAny q (p ∷ ps) ≡ overlapsAny q ps
+pub any-no : (q p : Pair) (ps : List Pair) → overlap q p ≡ false → overlapsAny q (p ∷ ps) ≡ overlapsAny q ps
 unfolding overlapsAny
 any-no q p ps e = rw (e, overlapsAny)
 
@@ -93,11 +93,11 @@ abbrev pub NoOverlap : List Pair → Type 0
 NoOverlap [] = Unit {0}
 NoOverlap (p ∷ ps) = ((x : Pair) → List·Memᴰ x ps → overlap x p ≡ false) × NoOverlap ps
 
-taking-yes : (before : List Pair) (p : Pair) (ps : List Pair) → overlapsAny p before ≡ true → taking before (p ∷ ps) ≡ taking before ps
+pub taking-yes : (before : List Pair) (p : Pair) (ps : List Pair) → overlapsAny p before ≡ true → taking before (p ∷ ps) ≡ taking before ps
 unfolding taking
 taking-yes before p ps e = rw (e, taking)
 
-taking-no : (before : List Pair) (p : Pair) (ps : List Pair) → overlapsAny p before ≡ false → taking before (p ∷ ps) ≡ p ∷ taking (p ∷ before) ps
+pub taking-no : (before : List Pair) (p : Pair) (ps : List Pair) → overlapsAny p before ≡ false → taking before (p ∷ ps) ≡ p ∷ taking (p ∷ before) ps
 unfolding taking
 taking-no before p ps e = rw (e, taking)
 
