@@ -4,6 +4,12 @@ pub mod RowOrder
 pub mod Taken
 pub mod Replaced
 pub mod Value
+pub mod Order
+pub mod Counts
+pub mod Pick
+pub mod Ties
+pub mod End
 pub mod LookupSigns
 pub mod LookupTaken
+pub mod LookupPick
 pub mod Marked

@@ -12,14 +12,14 @@ use lib.Seq.{getD-at}
 use borrow.Author.Tests.{eqb-true, eqb-false, eq-eqb, leb-true, leb-false, le-leb}
 use Rattle.term.specs.declared.Term.{Term}
 use Rattle.elimination.specs.declared.Divisor.{Divisor}
-use Rattle.elimination.specs.Rows.{Row, Precedes, Ascending}
+use Rattle.elimination.specs.Rows.{Row, Precedes, Ascending, WellFormed, EachRow}
 use Rattle.elimination.specs.Divisors.{Pair, coDivisor, pairsWith, pairsOf, sameDivisor, overlap, overlapsAny, occurrences, taking, taken, score}
 use Rattle.elimination.specs.RowOrder.{rowOrderDivisor, rowOrderPairs, rowOrderOccurrences}
-use Rattle.elimination.specs.Lookup.{ExponentsBelow, AllExponentsBelow, Proper, Signs, signAt, occursAt, overlapsTaken, takenFlags, pairAt, pairsFrom, countTrue, lookupScore, rowsSigns}
+use Rattle.elimination.specs.Lookup.{ExponentsBelow, Proper, Signs, signAt, occursAt, overlapsTaken, takenFlags, pairAt, pairsFrom, countTrue, lookupScore, rowsSigns}
 use Rattle.elimination.proofs.Tests.{by-bool, by-test, clash, and-no-left}
 use Rattle.elimination.proofs.Same.{same-divisor}
 use Rattle.elimination.proofs.RowOrder.{InRowOrder, Placed, placed, Occurrence, occurrence, all-occurrences, divisor-in-order, with-member, pairs-member, pairs-in-order, occurrences-in-order}
-use Rattle.elimination.proofs.Taken.{Shares, first-first, first-second, second-first, second-second, shares, sharing, any-yes, any-no, taking-yes, taking-no, AllAscending}
+use Rattle.elimination.proofs.Taken.{Shares, first-first, first-second, second-first, second-second, shares, sharing, any-yes, any-no, taking-yes, taking-no}
 use Rattle.elimination.proofs.LookupSigns.{pair-co-divisor, pair-occurs, LookedUp, occurrence-looked-up}
 
 -- ---- the pairs of a row in its order ascend by first term, then second
@@ -305,8 +305,9 @@ pub taken-count : (positions : ℕ) (d : Divisor) → Proper d → (r : Row) →
     → length (taken d r) ≡ countTrue (takenFlags (signAt r) d positions)
 taken-count positions d proper r a b = ap length (taken-looked-up positions d proper r a b) ∙ count-from (signAt r) d 0 (takenFlags (signAt r) d positions)
 
-pub score-looked-up : (positions : ℕ) (d : Divisor) → Proper d → (rows : List Row) → AllAscending rows → AllExponentsBelow positions rows
+pub score-looked-up : (positions symbol : ℕ) (d : Divisor) → Proper d → (rows : List Row) → EachRow (WellFormed positions symbol) rows
     → score d rows ≡ lookupScore positions (rowsSigns rows) d
 unfolding score lookupScore
-score-looked-up positions d proper [] a b = refl
-score-looked-up positions d proper (r ∷ rs) a b = ap₂ _+_ (taken-count positions d proper r (a .0) (b .0)) (score-looked-up positions d proper rs (a .1) (b .1))
+score-looked-up positions symbol d proper [] w = refl
+score-looked-up positions symbol d proper (r ∷ rs) w =
+    ap₂ _+_ (taken-count positions d proper r (w .0 .ascending) (w .0 .exponents)) (score-looked-up positions symbol d proper rs (w .1))

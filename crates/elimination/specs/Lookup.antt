@@ -16,13 +16,9 @@ use Rattle.elimination.specs.Elimination.{Scored, better, noPairs, allPa
 
 -- ---- the rows and divisors of which the definitions below agree with the others
 
--- the exponents of a row, and of all rows, are below a number of digit positions
+-- the exponents of a row are below a number of digit positions
 abbrev pub ExponentsBelow : ℕ → Row → Type 0
 ExponentsBelow positions r = (t : Term) → List·Memᴰ t r → t .exponent < positions
-
-abbrev pub AllExponentsBelow : ℕ → List Row → Type 0
-AllExponentsBelow positions [] = Unit {0}
-AllExponentsBelow positions (r ∷ rs) = ExponentsBelow positions r × AllExponentsBelow positions rs
 
 -- what the divisor of two terms of a row is: its smaller exponent is 0, and its terms are in order; so if a and b are one symbol,
 -- then ea is 0 and eb is not
