@@ -12,4 +12,5 @@ pub mod End
 pub mod LookupSigns
 pub mod LookupTaken
 pub mod LookupPick
+pub mod LookupAfter
 pub mod Marked
