@@ -13,4 +13,5 @@ pub mod LookupSigns
 pub mod LookupTaken
 pub mod LookupPick
 pub mod LookupAfter
+pub mod LookupFlags
 pub mod Marked

@@ -1,8 +1,8 @@
 -- The row after a step, worked out by look-up, is the row after the step.
 -- Assumes nothing.
-use Prim.Native.Nat.{ℕ, zero, suc, _+_, _-_, _≤_}
+use Prim.Native.Nat.{ℕ, zero, suc, _+_, _-_}
 use mathlib.Core.Path.{_≡_, refl, sym, _∙_, ap, ap₂}
-use mathlib.Core.Logic.{_⊎_, inl, inr, ⊎-elim}
+use mathlib.Core.Logic.{⊎-elim}
 use mathlib.Core.Bool.{Bool, true, false, _&&_, _||_, false≢true}
 use mathlib.Core.List.{List, [], _∷_, _++_, List·Memᴰ, List·Memᴰ·head, List·Memᴰ·tail, List·Memᴰ·cases-cons, List·Memᴰ·not-nil}
 use native.Mathlib.Omega.{arith}
@@ -12,10 +12,10 @@ use borrow.Author.Tests.{eqb-true, eq-eqb, leb-true, le-leb}
 use Rattle.term.specs.declared.Term.{Term}
 use Rattle.elimination.specs.declared.Divisor.{Divisor}
 use Rattle.elimination.specs.Rows.{Row, Ascending, WellFormed, EachRow}
-use Rattle.elimination.specs.Divisors.{Pair, coDivisor, signOf, samePlace, taken}
+use Rattle.elimination.specs.Divisors.{Pair, coDivisor, signOf}
 use Rattle.elimination.specs.Elimination.{sameTerm, dropTerm, withoutPairs, newTerms, rowAfter, rowsAfter}
 use Rattle.elimination.specs.Lookup.{ExponentsBelow, Proper, Signs, signAt, takenFlags, termAt, pairAt, pairsFrom, partAs, partOfTaken, keptTerms, lookupTermsFrom, lookupRowAfter, lookupRowsAfter}
-use Rattle.elimination.proofs.Tests.{by-bool, by-test, clash, and-left, and-right, and-both, or-left, or-right, or-cases, or-neither}
+use Rattle.elimination.proofs.Tests.{by-bool, by-test, and-left, and-right, and-both, or-left, or-right, or-cases, or-neither}
 use Rattle.elimination.proofs.Same.{same-term, term-same}
 use Rattle.elimination.proofs.RowOrder.{sign-in-order}
 use Rattle.elimination.proofs.Replaced.{drop-yes, drop-no}

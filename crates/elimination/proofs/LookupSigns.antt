@@ -1,22 +1,22 @@
 -- What the sign of a symbol and exponent says of a row in its order: which terms, and which occurrences of a divisor, are there.
 -- Assumes nothing.
-use Prim.Native.Nat.{ℕ, suc, _+_, _-_, _≤_, _<_, min}
+use Prim.Native.Nat.{ℕ, _+_, _-_, _≤_, _<_}
 use mathlib.Core.Path.{_≡_, refl, sym, _∙_, ap, ap₂}
-use mathlib.Core.Logic.{_⊎_, inl, inr, ⊎-elim}
-use mathlib.Core.Bool.{Bool, true, false, not, _&&_, false≢true, true≢false}
-use mathlib.Core.List.{List, [], _∷_, _++_, List·Memᴰ, List·Memᴰ·head, List·Memᴰ·tail, List·Memᴰ·cases-cons, List·Memᴰ·not-nil, Memᴰ·cast, Memᴰ·append-left, Memᴰ·append-right}
+use mathlib.Core.Logic.{inl, inr, ⊎-elim}
+use mathlib.Core.Bool.{Bool, true, false, not}
+use mathlib.Core.List.{[], _∷_, List·Memᴰ, List·Memᴰ·head, List·Memᴰ·tail, List·Memᴰ·cases-cons, List·Memᴰ·not-nil, Memᴰ·cast, Memᴰ·append-left, Memᴰ·append-right}
 use native.Mathlib.Omega.{arith}
 use lib.Dec.{eqb}
-use borrow.Author.Tests.{eqb-true, eqb-false, eq-eqb, ne-eqb, not-true}
+use borrow.Author.Tests.{eqb-true, eqb-false, not-true}
 use Rattle.term.specs.declared.Term.{Term}
 use Rattle.elimination.specs.declared.Divisor.{Divisor}
 use Rattle.elimination.specs.Rows.{Row, Precedes, Ascending}
-use Rattle.elimination.specs.Divisors.{Pair, coDivisor, divisorOf, signOf, pairsWith, pairsOf, sameSign, samePlace}
+use Rattle.elimination.specs.Divisors.{Pair, coDivisor, divisorOf, pairsWith, pairsOf, samePlace}
 use Rattle.elimination.specs.RowOrder.{differ, rowOrderDivisor}
 use Rattle.elimination.specs.Lookup.{ExponentsBelow, Proper, Signs, signNumber, signAt, occursWith, occursAt, termAt, pairAt}
-use Rattle.elimination.proofs.Tests.{by-bool, by-test, clash, and-left, and-right, and-both}
+use Rattle.elimination.proofs.Tests.{by-bool, and-left, and-right}
 use Rattle.elimination.proofs.Same.{SamePlace, same-place, place-same}
-use Rattle.elimination.proofs.RowOrder.{InRowOrder, Placed, placed, Occurrence, occurrence-placed, divisor-in-order, sign-in-order, pairs-in-order, pairs-member}
+use Rattle.elimination.proofs.RowOrder.{InRowOrder, Placed, Occurrence, occurrence-placed, divisor-in-order, pairs-in-order, pairs-member}
 
 -- ---- the divisors of rows are proper
 

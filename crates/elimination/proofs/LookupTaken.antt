@@ -1,6 +1,6 @@
 -- What is taken of a row in its order is what the flags say: the looked-up pairs at the flagged co-divisors. So are the scores.
 -- Assumes nothing.
-use Prim.Native.Nat.{ℕ, zero, suc, _+_, _-_, _≤_, _<_, min}
+use Prim.Native.Nat.{ℕ, zero, suc, _+_, _-_, _≤_, _<_}
 use mathlib.Core.Path.{_≡_, refl, sym, _∙_, ap, ap₂}
 use mathlib.Core.Logic.{_⊎_, inl, inr, ⊎-elim}
 use mathlib.Core.Bool.{Bool, true, false, not, _&&_, and-false, false≢true, true≢false}
@@ -9,18 +9,18 @@ use native.Mathlib.Omega.{arith}
 use lib.Dec.{eqb, leb}
 use lib.ListN.{length, length-append, getD}
 use lib.Seq.{getD-at}
-use borrow.Author.Tests.{eqb-true, eqb-false, eq-eqb, leb-true, leb-false, le-leb}
+use borrow.Author.Tests.{eqb-true, eqb-false, eq-eqb, leb-true, le-leb}
 use Rattle.term.specs.declared.Term.{Term}
 use Rattle.elimination.specs.declared.Divisor.{Divisor}
 use Rattle.elimination.specs.Rows.{Row, Precedes, Ascending, WellFormed, EachRow}
 use Rattle.elimination.specs.Divisors.{Pair, coDivisor, pairsWith, pairsOf, sameDivisor, overlap, overlapsAny, occurrences, taking, taken, score}
 use Rattle.elimination.specs.RowOrder.{rowOrderDivisor, rowOrderPairs, rowOrderOccurrences}
 use Rattle.elimination.specs.Lookup.{ExponentsBelow, Proper, Signs, signAt, occursAt, overlapsTaken, takenFlags, pairAt, pairsFrom, countTrue, lookupScore, rowsSigns}
-use Rattle.elimination.proofs.Tests.{by-bool, by-test, clash, and-no-left}
+use Rattle.elimination.proofs.Tests.{by-bool, by-test, clash}
 use Rattle.elimination.proofs.Same.{same-divisor}
-use Rattle.elimination.proofs.RowOrder.{InRowOrder, Placed, placed, Occurrence, occurrence, all-occurrences, divisor-in-order, with-member, pairs-member, pairs-in-order, occurrences-in-order}
+use Rattle.elimination.proofs.RowOrder.{InRowOrder, Placed, placed, occurrence, all-occurrences, divisor-in-order, with-member, pairs-member, pairs-in-order, occurrences-in-order}
 use Rattle.elimination.proofs.Taken.{Shares, first-first, first-second, second-first, second-second, shares, sharing, any-yes, any-no, taking-yes, taking-no}
-use Rattle.elimination.proofs.LookupSigns.{pair-co-divisor, pair-occurs, LookedUp, occurrence-looked-up}
+use Rattle.elimination.proofs.LookupSigns.{pair-co-divisor, pair-occurs, occurrence-looked-up}
 
 -- ---- the pairs of a row in its order ascend by first term, then second
 
