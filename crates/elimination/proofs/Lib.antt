@@ -9,9 +9,12 @@ pub mod Counts
 pub mod Pick
 pub mod Ties
 pub mod End
+pub mod Weights
+pub mod Matrix
+pub mod Elimination
+pub mod Marked
 pub mod LookupSigns
 pub mod LookupTaken
 pub mod LookupPick
 pub mod LookupAfter
 pub mod LookupFlags
-pub mod Marked
