@@ -18,6 +18,7 @@ use Rattle.elimination.proofs.Tests.{or-left}
 use Rattle.elimination.proofs.RowOrder.{Occurrence}
 use Rattle.elimination.proofs.Taken.{taken-most}
 use Rattle.elimination.proofs.Order.{score-occurs, each-row}
+use Rattle.elimination.proofs.Pick.{pick-score}
 use Rattle.elimination.proofs.LookupSigns.{pairs-proper}
 use Rattle.elimination.proofs.LookupTaken.{score-looked-up}
 
@@ -76,3 +77,7 @@ module _ (positions symbol : ℕ) where
     pub pick-looked-up : lookupPick positions first rows ≡ pick first rows
     unfolding lookupPick pick
     pick-looked-up = best-looked-up (allPairs rows) (λ p m. m) noPairs ∙ best-of-some (allPairs rows) (λ p m. m)
+
+    -- and a pick that is carried out is proper
+    pub pick-proper : 2 ≤ pick first rows .score → Proper (pick first rows .divisor)
+    pick-proper h = scored-proper (pick first rows .divisor) rows w (omega (arith, pick-score first rows h))

@@ -191,7 +191,7 @@ one-more-false (f ∷ flags) (suc i) = one-more-false flags i
 -- ---- taking along the flags
 
 overlaps-false : (d : Divisor) (flags : List Bool) (k : ℕ) → overlapsTaken d (flags ++ (false ∷ [])) k ≡ overlapsTaken d flags k
-overlaps-false d flags k = ap (λ z. eqb (d .a) (d .b) && (leb (d .eb) k && z)) (one-more-false flags (k - d .eb))
+overlaps-false d flags k = rw one-more-false
 
 module _ (signs : Signs) (d : Divisor) (proper : Proper d) where
   -- a later pair overlaps an earlier one exactly if it begins where that one ends
@@ -211,7 +211,7 @@ module _ (signs : Signs) (d : Divisor) (proper : Proper d) where
   overlaps-true : (c k : ℕ) (flags : List Bool) → length flags ≡ c → Follows c k → overlapsTaken d (flags ++ (true ∷ [])) k ≡ true
   overlaps-true c k flags l e =
       let i : k - d .eb ≡ c = omega arith in
-      rw (eq-eqb (d .a) (d .b) (e .0), le-leb (d .eb) k (omega arith), i) (getD-at flags true [] false c l)
+      rw (eq-eqb (d .a) (d .b) (e .0), le-leb (d .eb) k (omega arith)) (ap (λ z. getD (flags ++ (true ∷ [])) z false) i ∙ getD-at flags true [] false c l)
 
   overlaps-other : (c k : ℕ) (flags : List Bool) → length flags ≡ c → (Follows c k → ⊥) → overlapsTaken d (flags ++ (true ∷ [])) k ≡ overlapsTaken d flags k
   overlaps-other c k flags l n = by-bool (eqb (d .a) (d .b))
