@@ -14,3 +14,8 @@ pub mod Weights
 pub mod Matrix
 pub mod Elimination
 pub mod Marked
+pub mod LookupSigns
+pub mod LookupTaken
+pub mod LookupPick
+pub mod LookupAfter
+pub mod LookupFlags

@@ -6,3 +6,4 @@ pub mod Elimination
 pub mod Steps
 pub mod Weights
 pub mod Marked
+pub mod Lookup
