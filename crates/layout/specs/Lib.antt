@@ -1,1 +1,5 @@
+pub mod Bytes
 pub mod Records
+pub mod Matrix
+pub mod Step
+pub mod Written
