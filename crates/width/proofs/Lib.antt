@@ -1,0 +1,4 @@
+-- Laws of the board machine, of linear forms, of widths and of depths, lowest first.
+pub mod MachineLaws
+pub mod FormLaws
+pub mod WidthLaws
