@@ -2,3 +2,6 @@
 pub mod MachineLaws
 pub mod FormLaws
 pub mod WidthLaws
+pub mod DepthLaws
+pub mod RangeLaws
+pub mod Marked
