@@ -69,6 +69,10 @@ module _ (s W : ℕ) (cs : List ℤ) (h : width s cs ≤ W) where
       go (pos c) P l k m a b = omega (arith, mul-le-mul-right (positives cs) l)
       go (negsuc c) P l k m a b = omega (arith, mul-le-mul-right (negatives cs) l)
 
+-- a moderate form's coefficients are small, too
+pub moderate-sums : {s : ℕ} {cs : List ℤ} → Moderate s cs → positives cs + negatives cs < 2 ^ 62
+moderate-sums {s} {cs} h = omega (arith, h .spread, mul-le-mul-right (positives cs + negatives cs) (pow-pos (s - 1)))
+
 -- ---- one operation and one output on numbers that lie within a width
 
 -- a number of w bits, shifted by at most k

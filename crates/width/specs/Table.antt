@@ -68,6 +68,11 @@ pub record Small (z : ℤ) (s : ℕ) : Type 0 where
   pub shift : s < 64
   pub size : natAbs (shifted z s) < 2 ^ 62
 
+-- all coefficients of an operation's operands are
+pub record SmallForms (table : List ℤ) (n : ℕ) (o : Operation) : Type 0 where
+  pub first : (j : ℕ) → j < n → Small (coefficientAt table (o .a) j) (o .sa)
+  pub second : (j : ℕ) → j < n → Small (coefficientAt table (o .b) j) (o .sb)
+
 -- both ends of the range over samples of s bits are so small that nothing wraps where the width is worked out
 pub record Moderate (s : ℕ) (cs : List ℤ) : Type 0 where
   pub spread : 2 ^ (s - 1) * (positives cs + negatives cs) < 2 ^ 62
