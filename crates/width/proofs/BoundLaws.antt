@@ -1,22 +1,22 @@
 -- Where entries have widths at most W and shifts are at most k, nothing wraps: what the calls on tables and values ask is met, for the
 -- next operation's form and width, for an output's width, and for board values.
 -- Assumes nothing.
-use Prim.Native.Nat.{ℕ, zero, suc, _+_, _-_, _^_, _≤_, _<_}
-use mathlib.Core.Path.{_≡_, refl, sym, ap, _∙_}
+use Prim.Native.Nat.{ℕ, _+_, _-_, _^_, _≤_, _<_}
+use mathlib.Core.Path.{_≡_, sym, ap, _∙_}
 use mathlib.Core.List.{List, [], _∷_, _++_}
 use native.Mathlib.Omega.{arith}
 use lib.IntN.{ℤ, pos, natAbs}
 use lib.ListN.{length, getD}
 use Rattle.layout.specs.declared.Operation.{Operation}
 use Rattle.layout.specs.declared.Output.{Output}
-use Rattle.width.specs.Machine.{entryAt, machine, entryForm, outputForm, unit}
+use Rattle.width.specs.Machine.{entryAt, machine, entryForm}
 use Rattle.width.specs.Width.{Within, Samples, width}
-use Rattle.width.specs.Table.{coefficientAt, columns, row, operationRow, outputRow, formAppended, HoldsForms, Small, SmallForms, Moderate}
+use Rattle.width.specs.Table.{coefficientAt, row, outputRow, HoldsForms, Small, SmallForms, SmallRange}
 use Rattle.width.proofs.MachineLaws.{machine-keeps}
 use Rattle.width.proofs.FormLaws.{columns-at}
 use Rattle.width.proofs.WidthLaws.{within-wider, entry-width-is, width-from-one}
-use Rattle.width.proofs.RangeLaws.{width-coefficient, small, small-within, operation-moderate, output-moderate}
-use Rattle.width.proofs.TableLaws.{row-is, output-row-is, operation-row-is, appended-holds}
+use Rattle.width.proofs.RangeLaws.{width-coefficient, small, small-within, operation-range-small, output-range-small}
+use Rattle.width.proofs.TableLaws.{row-is, operation-row-is}
 
 -- a sample's entry has at most the samples' width
 pub sample-width : (s n : ℕ) (os : List Operation) (symbol : ℕ) → 1 ≤ s → symbol < n → width s (entryForm n os symbol) ≤ s
@@ -58,16 +58,16 @@ module _ (s W k n : ℕ) (os : List Operation) (table : List ℤ) (H : HoldsForm
   }
 
   -- what `entry_width` asks of an operation's form, once it is appended
-  pub appended-moderate : 2 ≤ s → (o : Operation) → o .a < n + length os → o .b < n + length os
+  pub appended-range-small : 2 ≤ s → (o : Operation) → o .a < n + length os → o .b < n + length os
       → width s (entryForm n os (o .a)) ≤ W → width s (entryForm n os (o .b)) ≤ W → o .sa ≤ k → o .sb ≤ k → W + k ≤ 61
-      → Moderate s (entryForm n (os ++ (o ∷ [])) (n + length os))
-  appended-moderate two o ha hb wa wb la lb m =
+      → SmallRange s (entryForm n (os ++ (o ∷ [])) (n + length os))
+  appended-range-small two o ha hb wa wb la lb m =
       rw (sym (operation-row-is n os table H o ha hb))
-      (operation-moderate s W k n two m (coefficientAt table (o .a)) (coefficientAt table (o .b)) (o .sign) (o .sa) (o .sb)
+      (operation-range-small s W k n two m (coefficientAt table (o .a)) (coefficientAt table (o .b)) (o .sign) (o .sa) (o .sb)
       (rw (row-is n os table H (o .a) ha) wa) (rw (row-is n os table H (o .b) hb) wb) la lb)
 
   -- what `output_width` asks of an output's
-  pub output-row-moderate : 2 ≤ s → (o : Output) → o .symbol < n + length os → width s (entryForm n os (o .symbol)) ≤ W → o .shift ≤ k → W + k ≤ 62
-      → Moderate s (outputRow table n o)
-  output-row-moderate two o h w l m =
-      output-moderate s W k n two m (coefficientAt table (o .symbol)) (o .sign) (o .shift) (rw (row-is n os table H (o .symbol) h) w) l
+  pub output-row-range-small : 2 ≤ s → (o : Output) → o .symbol < n + length os → width s (entryForm n os (o .symbol)) ≤ W → o .shift ≤ k → W + k ≤ 62
+      → SmallRange s (outputRow table n o)
+  output-row-range-small two o h w l m =
+      output-range-small s W k n two m (coefficientAt table (o .symbol)) (o .sign) (o .shift) (rw (row-is n os table H (o .symbol) h) w) l

@@ -1,11 +1,11 @@
 -- Document 01, "Marked banks": the widths hold.
 -- Assumes nothing.
-use mathlib.Core.Path.{_≡_, refl, ap}
-use mathlib.Core.List.{List, [], _∷_}
-use lib.IntN.{ℤ, pos, negsuc}
+use mathlib.Core.Path.{_≡_, refl}
+use mathlib.Core.List.{[], _∷_}
+use lib.IntN.{pos, negsuc}
 use lib.ListN.{replicate}
 use Rattle.width.specs.Machine.{entryForm, outputForm}
-use Rattle.width.specs.Width.{IsWidth, width}
+use Rattle.width.specs.Width.{width}
 use Rattle.width.specs.Marked.{MarkedWidths, sumOfTwo, negatedSample, chainOfEight, negatedChain}
 use Rattle.width.proofs.WidthLaws.{entry-width-is, output-width-is}
 

@@ -1,12 +1,12 @@
 -- An output's width: its entry's range, shifted, with the ends exchanged if it is minus; a zero output's is 1.
 -- Assumes nothing.
 use Prim.Native.Nat.{ℕ, zero, suc, pred, _+_, _*_, _-_, _^_, _≤_, _<_, max}
-use mathlib.Core.Path.{_≡_, refl, sym, ap, ap₂, _∙_}
+use mathlib.Core.Path.{_≡_, refl, sym, ap₂, _∙_}
 use native.Mathlib.Omega.{arith}
-use lib.IntN.{ℤ, pos, negℤ}
+use lib.IntN.{ℤ}
 use Rattle.width.specs.Machine.{shifted, signed}
 use Rattle.width.specs.Width.{positives, negatives, highestOf, lowestOf, bitsFrom, bits, widthOf, width}
-use Rattle.width.specs.Table.{columns, Moderate}
+use Rattle.width.specs.Table.{columns, SmallRange}
 use Rattle.width.proofs.RangeLaws.{positives-shifted, negatives-shifted, positives-negated, negatives-negated, positives-none, negatives-none}
 
 width-zero : (s : ℕ) → widthOf s 0 0 ≡ 1
@@ -45,7 +45,7 @@ module _ (f : ℕ → ℤ) (n s shift : ℕ) where
   zero-width (suc (suc sign)) h = sym (rw (positives-none 0 n, negatives-none 0 n) (width-zero s))
 
   -- the sums of the output's coefficients are the entry's, shifted, in either order
-  pub turned-spread : (sign : ℕ) → sign ≤ 1 → Moderate s (columns n (turned sign)) → 2 ^ (s - 1) * (above + below) < 2 ^ 62
+  pub turned-spread : (sign : ℕ) → sign ≤ 1 → SmallRange s (columns n (turned sign)) → 2 ^ (s - 1) * (above + below) < 2 ^ 62
   turned-spread zero l h = rw (sym (positives-shifted f shift 0 n), sym (negatives-shifted f shift 0 n)) (h .spread)
   turned-spread (suc zero) l h =
       let e : above + below ≡ positives (columns n (turned 1)) + negatives (columns n (turned 1)) = omega (

@@ -1,21 +1,20 @@
 -- Tables: a row that is written holds what was written and leaves the others, so that the coefficients, values and depths in a table
 -- are the netlist's after each operation.
 -- Assumes nothing.
-use Prim.Native.Nat.{ℕ, zero, suc, _+_, _*_, _-_, _≤_, _<_}
-use mathlib.Core.Path.{_≡_, refl, sym, ap, ap₂, _∙_, subst}
-use mathlib.Core.Logic.{_≢_}
+use Prim.Native.Nat.{ℕ, zero, suc, _+_, _*_, _≤_, _<_}
+use mathlib.Core.Path.{_≡_, refl, sym, ap, ap₂, _∙_}
 use mathlib.Core.List.{List, [], _∷_, _++_}
 use native.Mathlib.Omega.{arith}
 use native.Mathlib.Decide.{decLt, ℕ-discrete}
 use lib.IntN.{ℤ, pos}
 use lib.ListN.{length, getD, set, take, drop, length-set, length-append}
-use lib.Seq.{sets, length-sets, drop-cons, getD-set-same, getD-set-other, getD-take, take-suc-set, take-set-le}
+use lib.Seq.{sets, length-sets, drop-cons, getD-set-same, getD-set-other, getD-take, take-suc-set}
 use Rattle.layout.specs.declared.Operation.{Operation}
 use Rattle.layout.specs.declared.Output.{Output}
-use Rattle.width.specs.Machine.{entryAt, shifted, joined, operationValue, machine, operationDepth, depths, outputValue, unit, entryForm, outputForm}
-use Rattle.width.specs.Table.{coefficientAt, columns, row, operationCoefficient, operationRow, outputRow, formAppended, samplesFrom, formsStarted, HoldsForms, valueAppended}
-use Rattle.width.proofs.MachineLaws.{machine-snoc, machine-keeps-after, machine-last, length-machine, operation-same}
-use Rattle.width.proofs.FormLaws.{length-unit, unit-same, unit-other, entry-columns, output-columns, length-columns, columns-at, columns-same}
+use Rattle.width.specs.Machine.{entryAt, operationValue, machine, operationDepth, depths, outputValue, unit, entryForm, outputForm}
+use Rattle.width.specs.Table.{coefficientAt, row, operationCoefficient, operationRow, outputRow, formAppended, unitRowsFrom, formsStarted, HoldsForms, valueAppended}
+use Rattle.width.proofs.MachineLaws.{machine-snoc, machine-keeps-after, machine-last, operation-same}
+use Rattle.width.proofs.FormLaws.{length-unit, unit-other, entry-columns, output-columns, length-columns, columns-at, columns-same}
 use Rattle.width.proofs.DepthLaws.{depths-snoc}
 
 -- ---- numbers written one after another
@@ -54,32 +53,32 @@ module _ {A : Type 0} (d : A) where
 
 -- ---- the samples' rows
 
-pub length-samples : (n i k : ℕ) (table : List ℤ) → length (samplesFrom n i k table) ≡ length table
-unfolding samplesFrom
+pub length-samples : (n i k : ℕ) (table : List ℤ) → length (unitRowsFrom n i k table) ≡ length table
+unfolding unitRowsFrom
 length-samples n i zero table = refl
 length-samples n i (suc k) table = length-samples n (suc i) k (sets table (i * 8) (unit n i)) ∙ length-sets table (i * 8) (unit n i)
 
-samples-keep : (n i k : ℕ) (table : List ℤ) (place : ℕ) → place < i * 8 → getD (samplesFrom n i k table) place (pos 0) ≡ getD table place (pos 0)
-unfolding samplesFrom
+samples-keep : (n i k : ℕ) (table : List ℤ) (place : ℕ) → place < i * 8 → getD (unitRowsFrom n i k table) place (pos 0) ≡ getD table place (pos 0)
+unfolding unitRowsFrom
 samples-keep n i zero table place h = refl
 samples-keep n i (suc k) table place h =
     samples-keep n (suc i) k (sets table (i * 8) (unit n i)) place (omega arith) ∙ sets-below (pos 0) (unit n i) table (i * 8) place h
 
 samples-hold : (n i k : ℕ) (table : List ℤ) (symbol j : ℕ) → n ≤ 8 → (i + k) * 8 ≤ length table → i ≤ symbol → symbol < i + k → j < n
-    → coefficientAt (samplesFrom n i k table) symbol j ≡ getD (unit n symbol) j (pos 0)
-unfolding samplesFrom
+    → coefficientAt (unitRowsFrom n i k table) symbol j ≡ getD (unit n symbol) j (pos 0)
+unfolding unitRowsFrom
 samples-hold n i zero table symbol j l r a b h = absurd (omega arith)
 samples-hold n i (suc k) table symbol j l r a b h =
     go (decLt i symbol) (λ a'. samples-hold n (suc i) k (sets table (i * 8) (unit n i)) symbol j l (omega (arith, length-sets table (i * 8) (unit n i))) a' (omega arith) h)
   where
-    here : i ≡ symbol → coefficientAt (samplesFrom n (suc i) k (sets table (i * 8) (unit n i))) symbol j ≡ getD (unit n symbol) j (pos 0)
+    here : i ≡ symbol → coefficientAt (unitRowsFrom n (suc i) k (sets table (i * 8) (unit n i))) symbol j ≡ getD (unit n symbol) j (pos 0)
     here e = rw (← e) (
         samples-keep n (suc i) k (sets table (i * 8) (unit n i)) (i * 8 + j) (omega arith)
         ∙ sets-inside (pos 0) (unit n i) table (i * 8) j (omega (arith, length-unit n i)) (omega (arith, length-unit n i))
         )
 
-    go : Dec (i < symbol) → (suc i ≤ symbol → coefficientAt (samplesFrom n (suc i) k (sets table (i * 8) (unit n i))) symbol j ≡ getD (unit n symbol) j (pos 0))
-        → coefficientAt (samplesFrom n (suc i) k (sets table (i * 8) (unit n i))) symbol j ≡ getD (unit n symbol) j (pos 0)
+    go : Dec (i < symbol) → (suc i ≤ symbol → coefficientAt (unitRowsFrom n (suc i) k (sets table (i * 8) (unit n i))) symbol j ≡ getD (unit n symbol) j (pos 0))
+        → coefficientAt (unitRowsFrom n (suc i) k (sets table (i * 8) (unit n i))) symbol j ≡ getD (unit n symbol) j (pos 0)
     go (yes m) later = later m
     go (no m) later = here (omega arith)
 

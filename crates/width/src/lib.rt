@@ -9,7 +9,7 @@ ghost use lib.ListN.{getD};
 ghost use lib.Seq.{sets};
 ghost use Rattle.width.specs.Machine.{shifted, joined, signed, entryAt, operationDepth, unit};
 ghost use Rattle.width.specs.Width.{positivePart, negativePart, positives, negatives, bits, widthOf, width};
-ghost use Rattle.width.specs.Table.{Small, SmallForms, Moderate, row, outputRow, formAppended, formsStarted, valueAppended};
+ghost use Rattle.width.specs.Table.{Small, SmallForms, SmallRange, row, outputRow, formAppended, formsStarted, valueAppended};
 
 // A·2^sA + B·2^sB, or A·2^sA − B·2^sB: of entries, and of their coefficients.
 pub fn combined(sign: u8, a: i64, sa: u8, b: i64, sb: u8) -> i64
@@ -84,7 +84,8 @@ fn scaled(x: u64, s: u8) -> u64
 
 // The width over samples of s bits, where the positive coefficients sum to p and the negative ones to −q.
 fn width_of(s: u8, p: u64, q: u64) -> u8
-    requires { ⌜ (1 ≤ s) × ((s ≤ 62) × (2 ^ (s - 1) * (p + q) < 2 ^ 62)) ⌝ }
+    requires { ⌜ (1 ≤ s) × (s ≤ 62) ⌝ }
+    requires { ⌜ 2 ^ (s - 1) * (p + q) < 2 ^ 62 ⌝ }
     ensures { λ r. ⌜ r ≡ widthOf s p q ⌝ }
 {
     let top = scaled(1, s - 1);
@@ -101,7 +102,8 @@ struct Sums {
 
 // The sums of the positive and of the negative coefficients of a symbol.
 fn sums_of(table: &[i64; 4096], symbol: usize, n: usize) -> Sums
-    requires { ⌜ (symbol < 512) × ((n ≤ 8) × (positives (row (now table) n symbol) + negatives (row (now table) n symbol) < 2 ^ 62)) ⌝ }
+    requires { ⌜ (symbol < 512) × (n ≤ 8) ⌝ }
+    requires { ⌜ positives (row (now table) n symbol) + negatives (row (now table) n symbol) < 2 ^ 62 ⌝ }
     ensures { λ r. ⌜ r ≡ record { positives = positives (row (now (table .entry)) n symbol); negatives = negatives (row (now (table .entry)) n symbol) } ⌝ }
 {
     let mut positives: u64 = 0;
@@ -119,32 +121,20 @@ fn sums_of(table: &[i64; 4096], symbol: usize, n: usize) -> Sums
 
 // The width of a symbol's entry over samples of s bits.
 pub fn entry_width(table: &[i64; 4096], symbol: usize, n: usize, s: u8) -> u8
-    requires { ⌜ (symbol < 512) × ((n ≤ 8) × ((1 ≤ s) × ((s ≤ 62) × Moderate s (row (now table) n symbol)))) ⌝ }
+    requires { ⌜ (symbol < 512) × (n ≤ 8) ⌝ }
+    requires { ⌜ (1 ≤ s) × (s ≤ 62) ⌝ }
+    requires { ⌜ SmallRange s (row (now table) n symbol) ⌝ }
     ensures { λ r. ⌜ r ≡ width s (row (now (table .entry)) n symbol) ⌝ }
 {
     let sums = sums_of(table, symbol, n);
     width_of(s, sums.positives, sums.negatives)
 }
 
-// One operation's depth: 1 more than the deeper operand's.
-pub fn operation_depth(depths: &[u16; 512], o: Operation) -> u16
-    requires { ⌜ (o .a < 512) × ((o .b < 512) × ((getD (now depths) (o .a) 0 < 65535) × (getD (now depths) (o .b) 0 < 65535))) ⌝ }
-    ensures { λ r. ⌜ r ≡ operationDepth (now (depths .entry)) o ⌝ }
-{
-    let a = o.a as usize;
-    let b = o.b as usize;
-    let first = depths[a];
-    let second = depths[b];
-    if first < second {
-        second + 1
-    } else {
-        first + 1
-    }
-}
-
 // The width of an output over samples of s bits: its entry's range, shifted, with the ends exchanged if it is minus.
 pub fn output_width(table: &[i64; 4096], o: Output, n: usize, s: u8) -> u8
-    requires { ⌜ (o .symbol < 512) × ((o .shift < 64) × ((n ≤ 8) × ((1 ≤ s) × ((s ≤ 62) × Moderate s (outputRow (now table) n o))))) ⌝ }
+    requires { ⌜ (o .symbol < 512) × ((o .shift < 64) × (n ≤ 8)) ⌝ }
+    requires { ⌜ (1 ≤ s) × (s ≤ 62) ⌝ }
+    requires { ⌜ SmallRange s (outputRow (now table) n o) ⌝ }
     ensures { λ r. ⌜ r ≡ width s (outputRow (now (table .entry)) n o) ⌝ }
 {
     if o.sign > 1 {
@@ -163,7 +153,8 @@ pub fn output_width(table: &[i64; 4096], o: Output, n: usize, s: u8) -> u8
 
 // The coefficients of an operation, from the rows of its operands into the row of its symbol.
 pub fn append_form(table: &mut [i64; 4096], o: Operation, symbol: usize, n: usize)
-    requires { ⌜ (symbol < 512) × ((n ≤ 8) × ((o .a < symbol) × (o .b < symbol))) ⌝ }
+    requires { ⌜ (symbol < 512) × (n ≤ 8) ⌝ }
+    requires { ⌜ (o .a < symbol) × (o .b < symbol) ⌝ }
     requires { ⌜ SmallForms (now table) n o ⌝ }
     ensures { λ r. ⌜ now (table .exit) ≡ formAppended (now (table .entry)) n o symbol ⌝ }
 {
@@ -195,6 +186,23 @@ pub fn start_forms(table: &mut [i64; 4096], n: usize)
 {
     for i in 0..n {
         start_form(table, i, n);
+    }
+}
+
+// One operation's depth: 1 more than the deeper operand's.
+pub fn operation_depth(depths: &[u16; 512], o: Operation) -> u16
+    requires { ⌜ (o .a < 512) × (o .b < 512) ⌝ }
+    requires { ⌜ (getD (now depths) (o .a) 0 < 65535) × (getD (now depths) (o .b) 0 < 65535) ⌝ }
+    ensures { λ r. ⌜ r ≡ operationDepth (now (depths .entry)) o ⌝ }
+{
+    let a = o.a as usize;
+    let b = o.b as usize;
+    let first = depths[a];
+    let second = depths[b];
+    if first < second {
+        second + 1
+    } else {
+        first + 1
     }
 }
 

@@ -1,12 +1,12 @@
 -- `width::append_form` meets its contract. What is left to write is the operation's row from column j on, and the rows below keep what
 -- they held. Assumes nothing.
-use mathlib.Core.Path.{_≡_, refl, sym, ap, ap₂, _∙_}
+use mathlib.Core.Path.{_≡_, refl, sym, ap, _∙_}
 use Prim.Native.Nat.{ℕ, suc, _+_, _*_, _-_, _^_, _≤_, _<_}
 use native.Mathlib.Omega.{arith}
 use native.Mathlib.Numerals.{add-one}
 use mathlib.Core.List.{List}
 use lib.IntN.{ℤ, pos}
-use lib.ListN.{getD, set, drop, length}
+use lib.ListN.{getD, set, drop}
 use lib.Seq.{sets, getD-set-other}
 use lib.Signed.{mag}
 use mir.Syntax.{w64}
@@ -98,8 +98,8 @@ module _ (table₀ table : List ℤ) (o : Operation) (symbol n j : ℕ) (kept : 
 combined-requires : tie.Need-combined-requires Inv-loop μ-loop
 combined-requires c κs = let L = c .before .before .before in let s = L .before .before .before in
     asked (s .args .table .now) (L .loop .table) (s .args .o) (s .args .symbol) (s .args .n) (L .loop .j) (L .loop .inv .1 .1)
-    (c .before .before .loop-test .taken) (s .pre .0 .1 .0) (s .pre .0 .1 .1 .0) (s .pre .0 .1 .1 .1)
-    (record { sfits = c .before .x .given }) (record { sfits = c .y .given }) (s .pre .1)
+    (c .before .before .loop-test .taken) (s .pre .0 .1) (s .pre .1 .0 .0) (s .pre .1 .0 .1)
+    (record { sfits = c .before .x .given }) (record { sfits = c .y .given }) (s .pre .1 .1)
 
 mul-z : tie.Need-mul-z Inv-loop μ-loop
 mul-z c = omega arith
@@ -122,10 +122,10 @@ loop-less c = omega arith
 loop-again : tie.Need-loop-again Inv-loop μ-loop
 loop-again c = let L = c .before .before .before .before in let s = L .before .before .before in
     let t = next (s .args .table .now) (L .loop .table) (s .args .o) (s .args .symbol) (s .args .n) (L .loop .j) (L .loop .inv .1 .1)
-    (c .before .before .before .loop-test .taken) (s .pre .0 .1 .0) (s .pre .0 .1 .1 .0) (s .pre .0 .1 .1 .1)
+    (c .before .before .before .loop-test .taken) (s .pre .0 .1) (s .pre .1 .0 .0) (s .pre .1 .0 .1)
     (record { sfits = c .before .before .x .given }) (record { sfits = c .before .y .given }) (c .combined .result) (c .combined .ok) (c .combined .ensures) in
     let k = kept-next (s .args .table .now) (L .loop .table) (s .args .o) (s .args .symbol) (s .args .n) (L .loop .j) (L .loop .inv .1 .1)
-    (c .before .before .before .loop-test .taken) (s .pre .0 .1 .0) (s .pre .0 .1 .1 .0) (s .pre .0 .1 .1 .1)
+    (c .before .before .before .loop-test .taken) (s .pre .0 .1) (s .pre .1 .0 .0) (s .pre .1 .0 .1)
     (record { sfits = c .before .before .x .given }) (record { sfits = c .before .y .given }) (c .combined .result) (c .combined .ok) (c .combined .ensures) in
     rw add-one (omega arith, (t ∙ L .loop .inv .1 .0, k))
 

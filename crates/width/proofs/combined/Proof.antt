@@ -1,10 +1,9 @@
 -- `width::combined` meets its contract. Assumes nothing.
 use mathlib.Core.Path.{refl}
-use lib.IntN.{ℤ}
 use mir.Syntax.{w64}
 use mir.Val.{ofZ}
 use Rattle.integers.proofs.Held.{Held, need-+, need--, held-+, held--, returned}
-use Rattle.width.specs.Machine.{shifted, joined}
+use Rattle.width.specs.Machine.{shifted}
 use Rattle.width.proofs.Shifts.{shifted-asked, shifted-held, sum-fits, difference-fits, joined-minus}
 use Rattle.width.proofs.combined.Statement.{statement}
 use Rattle.width.proofs.combined.Tie as tie

@@ -1,18 +1,15 @@
 -- `width::entry_width` meets its contract. Assumes nothing.
-use mathlib.Core.Path.{_≡_, refl, sym, ap, ap₂, _∙_}
-use Prim.Native.Nat.{ℕ, _+_, _*_, _-_, _^_, _<_}
-use native.Mathlib.Omega.{arith}
-use Rattle.width.specs.Width.{positives, negatives, widthOf, width}
-use Rattle.width.specs.Table.{row, Moderate}
-use Rattle.width.proofs.RangeLaws.{moderate-sums}
+use mathlib.Core.Path.{refl, _∙_}
+use Rattle.width.specs.Width.{width}
+use Rattle.width.proofs.RangeLaws.{small-range-sums}
 use Rattle.width.proofs.entry_width.Statement.{statement}
 use Rattle.width.proofs.entry_width.Tie as tie
 
 sums-of-requires : tie.Need-sums-of-requires
-sums-of-requires c κs = (c .pre .0, (c .pre .1 .0, moderate-sums (c .pre .1 .1 .1 .1)))
+sums-of-requires c κs = (c .pre .0, small-range-sums (c .pre .1 .1))
 
 width-of-requires : tie.Need-width-of-requires
-width-of-requires c κs = let p = c .before .pre .1 .1 in (p .0, (p .1 .0, rw (c .sums-of .ensures) (p .1 .1 .spread)))
+width-of-requires c κs = let p = c .before .pre .1 in (p .0, rw (c .sums-of .ensures) (p .1 .spread))
 
 returns : tie.Need-returns
 unfolding width

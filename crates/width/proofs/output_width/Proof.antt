@@ -1,14 +1,14 @@
 -- `width::output_width` meets its contract. Assumes nothing.
 use borrow.Author.Needs.{needs}
-use mathlib.Core.Path.{_≡_, refl, sym, ap, ap₂, _∙_}
-use Prim.Native.Nat.{ℕ, _+_, _*_, _-_, _^_, _≤_, _<_}
+use mathlib.Core.Path.{_≡_, ap, ap₂, _∙_}
+use Prim.Native.Nat.{ℕ, _+_, _*_, _-_, _^_, _<_}
 use native.Mathlib.Omega.{arith}
 use native.Mathlib.Nat.{mul-le-mul-left, mul-le-mul-right}
 use lib.Pow.{pow-pos}
 use lib.IntN.{ℤ}
 use Rattle.width.specs.declared.Sums.{Sums}
-use Rattle.width.specs.Width.{positives, negatives, widthOf, width}
-use Rattle.width.specs.Table.{coefficientAt, columns, row, outputRow, Moderate}
+use Rattle.width.specs.Width.{positives, negatives, widthOf}
+use Rattle.width.specs.Table.{coefficientAt, columns}
 use Rattle.width.proofs.OutputLaws.{plus-width, minus-width, zero-width, turned-spread}
 use Rattle.width.proofs.output_width.Statement.{statement}
 use Rattle.width.proofs.output_width.Tie as tie
@@ -39,13 +39,13 @@ module _ (c : tie.After-struct-known2) where
   f = coefficientAt (s .args .table .now) (s .args .o .symbol)
 
   spread : 2 ^ (s .args .s - 1) * (positives (columns (s .args .n) f) * 2 ^ s .args .o .shift + negatives (columns (s .args .n) f) * 2 ^ s .args .o .shift) < 2 ^ 62
-  spread = turned-spread f (s .args .n) (s .args .s) (s .args .o .shift) (s .args .o .sign) (c .before .if1 .left) (s .pre .1 .1 .1 .1 .1)
+  spread = turned-spread f (s .args .n) (s .args .s) (s .args .o .shift) (s .args .o .sign) (c .before .if1 .left) (s .pre .1 .1)
 
   bound : Bounds (positives (columns (s .args .n) f)) (negatives (columns (s .args .n) f)) (s .args .o .shift) (s .args .s)
   bound = bounds (positives (columns (s .args .n) f)) (negatives (columns (s .args .n) f)) (s .args .o .shift) (s .args .s) spread
 
 sums-of-requires : tie.Need-sums-of-requires
-sums-of-requires c κs = (s c .pre .0, (s c .pre .1 .1 .0, bound c .sums))
+sums-of-requires c κs = ((s c .pre .0 .0, s c .pre .0 .1 .1), bound c .sums)
 
 module _ (c : tie.After-sums-of) where
   above-is : c .sums-of .result .positives ≡ positives (columns (s (c .before) .args .n) (f (c .before)))
@@ -55,10 +55,10 @@ module _ (c : tie.After-sums-of) where
   below-is = ap (λ (t : Sums). t .negatives) (c .sums-of .ensures)
 
 scaled-requires : tie.Need-scaled-requires
-scaled-requires c κs = (s (c .before) .pre .1 .0, rw (above-is c) (bound (c .before) .above))
+scaled-requires c κs = (s (c .before) .pre .0 .1 .0, rw (above-is c) (bound (c .before) .above))
 
 scaled-requires-2 : tie.Need-scaled-requires-2
-scaled-requires-2 c κs = (s (c .before .before) .pre .1 .0, rw (below-is (c .before)) (bound (c .before .before) .below))
+scaled-requires-2 c κs = (s (c .before .before) .pre .0 .1 .0, rw (below-is (c .before)) (bound (c .before .before) .below))
 
 module _ (c : tie.After-struct-known3) where
   abbrev k : tie.After-struct-known2
@@ -81,10 +81,10 @@ both c = asked (2 ^ (s (k c) .args .s - 1)) (c .before .before .scaled .result) 
     (above c) (below c) (spread (k c))
 
 width-of-requires : tie.Need-width-of-requires
-width-of-requires c κs = let p = s (k (c .before)) .pre .1 .1 .1 in (p .0, (p .1 .0, both (c .before) .0))
+width-of-requires c κs = (s (k (c .before)) .pre .1 .0, both (c .before) .0)
 
 width-of-requires-2 : tie.Need-width-of-requires-2
-width-of-requires-2 c κs = let p = s (k (c .before)) .pre .1 .1 .1 in (p .0, (p .1 .0, both (c .before) .1))
+width-of-requires-2 c κs = (s (k (c .before)) .pre .1 .0, both (c .before) .1)
 
 returns-2 : tie.Need-returns-2
 returns-2 c = let d = c .before .before in let t = s (k d) in

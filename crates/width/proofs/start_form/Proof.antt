@@ -1,11 +1,11 @@
 -- `width::start_form` meets its contract. What is left to write is the unit vector from column j on. Assumes nothing.
-use mathlib.Core.Path.{_≡_, refl, sym, ap, _∙_}
-use mathlib.Core.Logic.{_⊎_, ⊎-elim}
-use Prim.Native.Nat.{ℕ, suc, _+_, _*_, _-_, _≤_, _<_}
+use mathlib.Core.Path.{_≡_, refl, sym, _∙_}
+use mathlib.Core.Logic.{⊎-elim}
+use Prim.Native.Nat.{ℕ, _+_, _*_, _-_, _≤_, _<_}
 use native.Mathlib.Omega.{arith}
 use native.Mathlib.Numerals.{add-one}
-use lib.IntN.{ℤ, pos}
-use lib.ListN.{getD, drop, length}
+use lib.IntN.{pos}
+use lib.ListN.{getD, drop}
 use lib.Seq.{sets}
 use mir.Syntax.{w64}
 use mir.Val.{toZ}

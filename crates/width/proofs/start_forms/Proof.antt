@@ -1,5 +1,5 @@
 -- `width::start_forms` meets its contract. What is left to write is the rows from i on. Assumes nothing.
-use mathlib.Core.Path.{_≡_, refl, sym, ap, _∙_}
+use mathlib.Core.Path.{_≡_, refl, _∙_}
 use Prim.Native.Nat.{ℕ, suc, _*_, _-_, _≤_, _<_}
 use native.Mathlib.Omega.{arith}
 use native.Mathlib.Numerals.{add-one}
@@ -7,23 +7,23 @@ use mathlib.Core.List.{List}
 use lib.IntN.{ℤ}
 use lib.Seq.{sets}
 use Rattle.width.specs.Machine.{unit}
-use Rattle.width.specs.Table.{samplesFrom}
+use Rattle.width.specs.Table.{unitRowsFrom}
 use Rattle.width.proofs.start_forms.Statement.{statement}
 use Rattle.width.proofs.start_forms.Tie as tie
 
 abbrev Inv-loop : tie.InvT-loop
-Inv-loop table₀ n i₀ table i = (i ≤ n) × (samplesFrom n i (n - i) table ≡ samplesFrom n 0 n table₀)
+Inv-loop table₀ n i₀ table i = (i ≤ n) × (unitRowsFrom n i (n - i) table ≡ unitRowsFrom n 0 n table₀)
 
 abbrev μ-loop : tie.MeasureT-loop
 μ-loop table₀ n i₀ table i = n - i
 
 -- one row of those that are left, and none
-next : (n i : ℕ) (table later : List ℤ) → i < n → later ≡ sets table (i * 8) (unit n i) → samplesFrom n (suc i) (n - suc i) later ≡ samplesFrom n i (n - i) table
-unfolding samplesFrom
+next : (n i : ℕ) (table later : List ℤ) → i < n → later ≡ sets table (i * 8) (unit n i) → unitRowsFrom n (suc i) (n - suc i) later ≡ unitRowsFrom n i (n - i) table
+unfolding unitRowsFrom
 next n i table later h e = let less : n - i ≡ suc (n - suc i) = omega arith in rw (less, e) refl
 
-none : (n i : ℕ) (table : List ℤ) → n ≤ i → table ≡ samplesFrom n i (n - i) table
-unfolding samplesFrom
+none : (n i : ℕ) (table : List ℤ) → n ≤ i → table ≡ unitRowsFrom n i (n - i) table
+unfolding unitRowsFrom
 none n i table h = let e : n - i ≡ 0 = omega arith in rw e refl
 
 loop-holds : tie.Need-loop-holds Inv-loop μ-loop

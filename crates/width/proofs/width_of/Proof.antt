@@ -1,13 +1,11 @@
 -- `width::width_of` meets its contract. Assumes nothing.
 use borrow.Author.Needs.{needs}
-use mathlib.Core.Path.{_≡_, refl, sym, ap, _∙_}
+use mathlib.Core.Path.{_≡_, refl, ap, _∙_}
 use Prim.Native.Nat.{ℕ, zero, suc, pred, _+_, _*_, _-_, _^_, _≤_, _<_, max}
 use native.Mathlib.Omega.{arith}
 use native.Mathlib.Numerals.{add-one}
 use lib.Pow.{pow-mono, pow-pos}
-use mir.Syntax.{w64}
-use mir.Val.{Fits}
-use Rattle.width.specs.Width.{bits, highestOf, lowestOf, widthOf}
+use Rattle.width.specs.Width.{bits, highestOf, lowestOf}
 use Rattle.width.proofs.WidthLaws.{bits-least}
 use Rattle.width.proofs.width_of.Statement.{statement}
 use Rattle.width.proofs.width_of.Tie as tie
@@ -45,7 +43,7 @@ module _ (c : tie.After-scaled) where
   top = omega (arith, c .scaled .ensures)
 
   fits : Fit (c .scaled .result - 1) (c .scaled .result) (c .before .args .p) (c .before .args .q)
-  fits = rw top (fit (2 ^ (s - 1)) (c .before .args .p) (c .before .args .q) (pow-pos (s - 1)) (c .before .pre .1 .1))
+  fits = rw top (fit (2 ^ (s - 1)) (c .before .args .p) (c .before .args .q) (pow-pos (s - 1)) (c .before .pre .1))
 
 sub-high : tie.Need-sub-high
 sub-high c = omega (arith, fits c .some)
