@@ -11,3 +11,8 @@ pub struct CompileAnswer {
     pub replacements: u16,
     pub depth: u16,
 }
+
+// Whether a refusal is none.
+pub fn accepts(refusal: u8) -> bool {
+    refusal == 0
+}
