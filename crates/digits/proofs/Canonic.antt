@@ -33,9 +33,9 @@ digits-apart (suc zero) z i = inr refl
 digits-apart (suc (suc positions)) z zero = apart z
 digits-apart (suc (suc positions)) z (suc i) = digits-apart (suc positions) (rest z) i
 
--- ---- the sum
+-- ---- the sum, which doubles with each position
 
-sum-above : (k : ℕ) (ds : List ℤ) → sumFrom (suc k) ds ≡ pos 2 *ℤ sumFrom k ds
+pub sum-above : (k : ℕ) (ds : List ℤ) → sumFrom (suc k) ds ≡ pos 2 *ℤ sumFrom k ds
 unfolding sumFrom
 sum-above k [] = refl
 sum-above k (d ∷ ds) = rw (pow-succ' 2 k)

@@ -19,11 +19,12 @@ use Rattle.digits.proofs.digits.Tie as tie
 
 abbrev Inv-loop : tie.InvT-loop
 Inv-loop z out₀ left₀ i₀ out left i =
-    (i ≤ length out) × (length out ≡ length out₀) × (take i out ++ digits (length out - i) (toZ w32 left) ≡ digits (length out) (toZ w16 z))
+    (i ≤ length out) × (length out ≡ length out₀) × (take i out ++ digits (length out - i) (toZ w32 left) ≡ digits (length out) (toZ w32 left₀))
 
 abbrev μ-loop : tie.MeasureT-loop
 μ-loop z out₀ left₀ i₀ out left i = length out₀ - i
 
+-- a coefficient fits the wider type
 wide : (c : tie.Start Inv-loop μ-loop) → SFits w32 (c .args .z)
 wide c = fits-wider w16 w32 (c .args .z) (lit≤ tt) (c .fits .z)
 
@@ -31,7 +32,7 @@ cast-left : tie.Need-cast-left Inv-loop μ-loop
 cast-left c = need-cast w32 (held (c .fits .z)) (wide c)
 
 loop-holds : tie.Need-loop-holds Inv-loop μ-loop
-loop-holds c = (omega arith, refl, ap (digits _) (is (held-cast w32 (held (c .fits .z)) (wide c)) ∙ sym (is (held (c .fits .z)))))
+loop-holds c = (omega arith, refl, refl)
 
 digit-of-requires : tie.Need-digit-of-requires Inv-loop μ-loop
 digit-of-requires c κs = tt
@@ -68,7 +69,7 @@ loop-again c =
     rw (length-set, add-one) (
       omega arith,
       L .loop .inv .1,
-      turn (L .loop .i) (toZ w32 (L .loop .left)) (toZ w16 (ofZ w16 (L .before .args .z))) (toZ w8 (ofZ w8 (c .before .digit-of .result))) (toZ w32 (ofZ w32 (c .rest-of .result))) (L .loop .out) room (L .loop .inv .2)
+      turn (L .loop .i) (toZ w32 (L .loop .left)) _ (toZ w8 (ofZ w8 (c .before .digit-of .result))) (toZ w32 (ofZ w32 (c .rest-of .result))) (L .loop .out) room (L .loop .inv .2)
           (call-result w8 (c .before .digit-of .ok) (c .before .digit-of .ensures)) (call-result w32 (c .rest-of .ok) (c .rest-of .ensures)),
     )
 
@@ -82,8 +83,8 @@ finished i n left z out e l h =
 returns : tie.Need-returns Inv-loop μ-loop
 returns c =
     let L = c .before in
-    finished (L .loop .i) _ (toZ w32 (L .loop .left)) (toZ w16 (ofZ w16 (L .before .args .z))) (L .loop .out) (L .loop .inv .1) (omega arith) (L .loop .inv .2)
-    ∙ ap (digits _) (is (held (L .before .fits .z)))
+    finished (L .loop .i) _ (toZ w32 (L .loop .left)) _ (L .loop .out) (L .loop .inv .1) (omega arith) (L .loop .inv .2)
+    ∙ ap (digits _) (is (held-cast w32 (held (L .before .fits .z)) (wide (L .before))))
 
 pub digits-spec : {M : Type 1} → statement M
 digits-spec =
