@@ -4,4 +4,8 @@ pub mod RowOrder
 pub mod Taken
 pub mod Replaced
 pub mod Value
+pub mod Order
+pub mod Counts
+pub mod Pick
+pub mod Ties
 pub mod Marked

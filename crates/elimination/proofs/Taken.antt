@@ -9,7 +9,7 @@ use native.Mathlib.Omega.{arith}
 use lib.ListN.{length}
 use Rattle.term.specs.declared.Term.{Term}
 use Rattle.elimination.specs.declared.Divisor.{Divisor}
-use Rattle.elimination.specs.Rows.{Row, Ascending}
+use Rattle.elimination.specs.Rows.{Row, Ascending, EachRow}
 use Rattle.elimination.specs.Divisors.{Pair, coDivisor, divisorOf, pairsOf, samePlace, overlap, overlapsAny, occurrences, taking, taken, score}
 use Rattle.elimination.proofs.Tests.{by-test, by-bool, clash, or-cases, or-left, or-right, or-no-left, or-no-right}
 use Rattle.elimination.proofs.Same.{SamePlace, same-place, place-same}
@@ -292,11 +292,7 @@ abbrev pub chosen : List (List Pair) → ℕ
 chosen [] = 0
 chosen (qs ∷ qss) = length qs + chosen qss
 
-abbrev pub AllAscending : List Row → Type 0
-AllAscending [] = Unit {0}
-AllAscending (r ∷ rs) = Ascending r × AllAscending rs
-
-pub score-most : (d : Divisor) (rows : List Row) → AllAscending rows → (qss : List (List Pair)) → Choices d rows qss → chosen qss ≤ score d rows
+pub score-most : (d : Divisor) (rows : List Row) → EachRow Ascending rows → (qss : List (List Pair)) → Choices d rows qss → chosen qss ≤ score d rows
 unfolding score
 score-most d [] a [] c = omega arith
 score-most d [] a (qs ∷ qss) c = absurd c
