@@ -37,22 +37,22 @@ outputsOf n e = rowOutputs (n + length (e .divisors)) (e .remainingRows)
 abbrev pub withWidth : ℕ → Operation → Operation
 withWidth w o = record { sign = o .sign; a = o .a; sa = o .sa; b = o .b; sb = o .sb; width = w }
 
--- the operations from a symbol on, each with its width among all operations
-unfoldable pub withWidths : ℕ → List Operation → ℕ → List Operation → List Operation
-withWidths n all symbol [] = []
-withWidths n all symbol (o ∷ os) = withWidth (width sampleWidth (entryForm n all symbol)) o ∷ withWidths n all (suc symbol) os
+-- the operations from a symbol on, each with its width among all operations, over samples of s bits
+unfoldable pub withWidths : ℕ → ℕ → List Operation → ℕ → List Operation → List Operation
+withWidths s n all symbol [] = []
+withWidths s n all symbol (o ∷ os) = withWidth (width s (entryForm n all symbol)) o ∷ withWidths s n all (suc symbol) os
 
-abbrev pub outputWithWidth : ℕ → List Operation → Output → Output
-outputWithWidth n os o = record { sign = o .sign; symbol = o .symbol; shift = o .shift; width = width sampleWidth (outputForm n os o) }
+abbrev pub outputWithWidth : ℕ → ℕ → List Operation → Output → Output
+outputWithWidth s n os o = record { sign = o .sign; symbol = o .symbol; shift = o .shift; width = width s (outputForm n os o) }
 
-unfoldable pub netlistOf : ℕ → ℕ → Eliminated → Netlist
+unfoldable pub netlistOf : ℕ → ℕ → ℕ → Eliminated → Netlist
 unfolding operationsOf outputsOf withWidths
-netlistOf m n e =
+netlistOf s m n e =
     let os = operationsOf n e in
     record {
       head = record { m = m; n = n; operations = length os };
-      operations = withWidths n os n os;
-      outputs = map (outputWithWidth n os) (outputsOf n e);
+      operations = withWidths s n os n os;
+      outputs = map (outputWithWidth s n os) (outputsOf n e);
       totals = record { operations = length os; depth = depth n os };
     }
 
@@ -66,7 +66,7 @@ abbrev pub eliminationOf : List ℕ → Eliminated
 eliminationOf bytes = matrixElimination positions (columns bytes) (matrix bytes)
 
 abbrev pub compiledNetlist : List ℕ → Netlist
-compiledNetlist bytes = netlistOf (rows bytes) (columns bytes) (eliminationOf bytes)
+compiledNetlist bytes = netlistOf sampleWidth (rows bytes) (columns bytes) (eliminationOf bytes)
 
 abbrev pub compiledBytes : List ℕ → List ℕ
 compiledBytes bytes = netlistBytes (compiledNetlist bytes)
