@@ -8,4 +8,7 @@ pub mod Order
 pub mod Counts
 pub mod Pick
 pub mod Ties
+pub mod End
+pub mod Weights
+pub mod Matrix
 pub mod Marked
