@@ -1,3 +1,4 @@
 pub mod Chains
 pub mod Compile
 pub mod Limits
+pub mod Marked
