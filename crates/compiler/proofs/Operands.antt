@@ -28,9 +28,13 @@ pub record OperationInRange (positions symbol : ℕ) (o : Operation) : Type 0 wh
   pub first-earlier : o .a < symbol
   pub second-earlier : o .b < symbol
 
+-- a property of each operation and its symbol, the first one's being given
+abbrev pub EachOperation : (ℕ → Operation → Type 0) → ℕ → List Operation → Type 0
+EachOperation P symbol [] = Unit {0}
+EachOperation P symbol (o ∷ os) = P symbol o × EachOperation P (suc symbol) os
+
 abbrev pub OperationsInRange : ℕ → ℕ → List Operation → Type 0
-OperationsInRange positions symbol [] = Unit {0}
-OperationsInRange positions symbol (o ∷ os) = OperationInRange positions symbol o × OperationsInRange positions (suc symbol) os
+OperationsInRange positions symbol os = EachOperation (OperationInRange positions) symbol os
 
 pub operands-earlier : (positions symbol : ℕ) (os : List Operation) → OperationsInRange positions symbol os → Earlier symbol os
 operands-earlier positions symbol [] h = tt
@@ -125,9 +129,12 @@ pub record OutputInRange (positions symbols : ℕ) (o : Output) : Type 0 where
   pub symbol : o .symbol < symbols
   pub zero : o .sign ≡ 2 → (o .symbol ≡ 0) × (o .shift ≡ 0)
 
+abbrev pub EachOutput : (Output → Type 0) → List Output → Type 0
+EachOutput P [] = Unit {0}
+EachOutput P (o ∷ os) = P o × EachOutput P os
+
 abbrev pub OutputsInRange : ℕ → ℕ → List Output → Type 0
-OutputsInRange positions symbols [] = Unit {0}
-OutputsInRange positions symbols (o ∷ os) = OutputInRange positions symbols o × OutputsInRange positions symbols os
+OutputsInRange positions symbols os = EachOutput (OutputInRange positions symbols) os
 
 never-zero : {A : Type 0} (b : Bool) → signOf b ≡ 2 → A
 never-zero b e = absurd (omega (arith, sign-in-range b))

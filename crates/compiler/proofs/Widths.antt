@@ -1,0 +1,70 @@
+-- Document 01, "Netlist and board machine": each recorded width is the width of its operation's or output's value, and recording
+-- widths changes nothing else.
+-- Assumes nothing.
+use Prim.Native.Nat.{ℕ, zero, suc, _+_, _-_, _^_, _≤_, _<_}
+use mathlib.Core.Path.{_≡_, refl, sym, ap, _∙_, subst}
+use mathlib.Core.List.{List, [], _∷_, _++_, map}
+use native.Mathlib.Omega.{arith}
+use lib.IntN.{ℤ, pos, negℤ, _-ℤ_}
+use lib.ListN.{length, replicate}
+use Rattle.integers.proofs.Expression.{nat, minus, _⊝_, at-most}
+use Rattle.layout.specs.declared.Operation.{Operation}
+use Rattle.layout.specs.declared.Output.{Output}
+use Rattle.width.specs.Machine.{entryAt, shifted, operationValue, machine, signed, outputValue, operationDepth, depths, largest, depth, entryForm, outputForm}
+use Rattle.width.specs.Width.{Within, IsWidth, width}
+use Rattle.width.proofs.WidthLaws.{width-same, width-unique, entry-width-is, output-width-is}
+use Rattle.compiler.specs.Compile.{withWidth, withWidths, outputWithWidth}
+use Rattle.compiler.proofs.Operands.{EachOperation, EachOutput}
+
+-- ---- the machine and depths are as without widths
+
+module _ (s n : ℕ) (all : List Operation) where
+  pub machine-with-widths : (symbol : ℕ) (os : List Operation) (xs : List ℤ) → machine xs (withWidths s n all symbol os) ≡ machine xs os
+  unfolding withWidths machine
+  machine-with-widths symbol [] xs = refl
+  machine-with-widths symbol (o ∷ os) xs = machine-with-widths (suc symbol) os (xs ++ (operationValue xs o ∷ []))
+
+  depths-with-widths : (symbol : ℕ) (os : List Operation) (ds : List ℕ) → depths ds (withWidths s n all symbol os) ≡ depths ds os
+  unfolding withWidths depths
+  depths-with-widths symbol [] ds = refl
+  depths-with-widths symbol (o ∷ os) ds = depths-with-widths (suc symbol) os (ds ++ (operationDepth ds o ∷ []))
+
+  pub depth-with-widths : (symbol : ℕ) (os : List Operation) → depth n (withWidths s n all symbol os) ≡ depth n os
+  unfolding depth
+  depth-with-widths symbol os = ap largest (depths-with-widths symbol os (replicate n 0))
+
+  -- what holds of each operation with its width, from what holds of it without; symbols are below a limit
+  pub each-with-width : (P Q : ℕ → Operation → Type 0) (limit : ℕ)
+      → ((symbol : ℕ) (o : Operation) → symbol < limit → P symbol o → Q symbol (withWidth (width s (entryForm n all symbol)) o))
+      → (symbol : ℕ) (os : List Operation) → symbol + length os ≤ limit → EachOperation P symbol os → EachOperation Q symbol (withWidths s n all symbol os)
+  unfolding withWidths
+  each-with-width P Q limit f symbol [] l h = tt
+  each-with-width P Q limit f symbol (o ∷ os) l h = (f symbol o (omega arith) (h .0), each-with-width P Q limit f (suc symbol) os (omega arith) (h .1))
+
+pub each-output-with-width : (s n : ℕ) (all : List Operation) (P Q : Output → Type 0) → ((o : Output) → P o → Q (outputWithWidth s n all o))
+    → (os : List Output) → EachOutput P os → EachOutput Q (map (outputWithWidth s n all) os)
+each-output-with-width s n all P Q f [] h = tt
+each-output-with-width s n all P Q f (o ∷ os) h = (f o (h .0), each-output-with-width s n all P Q f os (h .1))
+
+-- ---- the recorded widths, on the operations as recorded
+
+module _ (s n : ℕ) (os : List Operation) where
+  pub operation-width : (symbol : ℕ) → IsWidth s n (λ xs. entryAt (machine xs (withWidths s n os n os)) symbol) (width s (entryForm n os symbol))
+  operation-width symbol = width-same (λ xs. entryAt (machine xs os) symbol) (λ xs. entryAt (machine xs (withWidths s n os n os)) symbol)
+      (λ xs h. ap (λ l. entryAt l symbol) (sym (machine-with-widths s n os n os xs))) (entry-width-is s n os symbol)
+
+  pub output-width : (o : Output) → IsWidth s n (λ xs. outputValue (machine xs (withWidths s n os n os)) o) (width s (outputForm n os o))
+  output-width o = width-same (λ xs. outputValue (machine xs os) o) (λ xs. outputValue (machine xs (withWidths s n os n os)) o)
+      (λ xs h. ap (λ l. outputValue l o) (sym (machine-with-widths s n os n os xs))) (output-width-is s n os o)
+
+  -- the width of zero is 1
+  zero-width : (f : List ℤ → ℤ) → ((xs : List ℤ) → f xs ≡ pos 0) → IsWidth s n f 1
+  zero-width f e = width-same (λ xs. pos 0) f (λ xs h. sym (e xs)) (record {
+    from-one = omega arith;
+    holds = λ xs h. record { low = at-most (minus (nat 1)) (nat 0) (omega arith); high = at-most (nat 0) (nat 1 ⊝ nat 1) (omega arith) };
+    least = λ v l h. l;
+  })
+
+  pub zero-output-width : (o : Output) → o .sign ≡ 2 → width s (outputForm n os o) ≡ 1
+  zero-output-width o e = width-unique (output-width-is s n os o)
+      (zero-width (λ xs. outputValue (machine xs os) o) (λ xs. ap (λ (k : ℕ). signed k (shifted (entryAt (machine xs os) (o .symbol)) (o .shift))) e))
