@@ -11,4 +11,5 @@ pub mod Ties
 pub mod End
 pub mod Weights
 pub mod Matrix
+pub mod Elimination
 pub mod Marked
