@@ -58,14 +58,14 @@ turned-back true true z = refl
 
 -- ---- what follows an operation list in two parts
 
-follows-left : (v : ℕ → ℤ) (s : ℕ) (os ps : List Operation) → Follows v s (os ++ ps) → Follows v s os
+pub follows-left : (v : ℕ → ℤ) (s : ℕ) (os ps : List Operation) → Follows v s (os ++ ps) → Follows v s os
 follows-left v s [] ps h = tt
 follows-left v s (o ∷ os) ps h = (h .0, follows-left v (suc s) os ps (h .1))
 
 next-symbol : (s n : ℕ) → suc s + n ≡ s + suc n
 next-symbol s n = omega arith
 
-follows-right : (v : ℕ → ℤ) (s : ℕ) (os ps : List Operation) → Follows v s (os ++ ps) → Follows v (s + length os) ps
+pub follows-right : (v : ℕ → ℤ) (s : ℕ) (os ps : List Operation) → Follows v s (os ++ ps) → Follows v (s + length os) ps
 follows-right v s [] ps h = subst (λ (k : ℕ). Follows v k ps) (omega arith) h
 follows-right v s (o ∷ os) ps h = subst (λ (k : ℕ). Follows v k ps) (next-symbol s (length os)) (follows-right v (suc s) os ps (h .1))
 
@@ -136,19 +136,22 @@ module _ (v : ℕ → ℤ) where
 
   -- ---- a netlist: where each entry is what its operation makes of its operands, outputs are the values of the first rows
 
-  divisors-value : (n : ℕ) (e : Eliminated) → Follows v n (operationsOf n e) → Values v n (e .divisors)
+  pub divisors-value : (n : ℕ) (e : Eliminated) → Follows v n (operationsOf n e) → Values v n (e .divisors)
   unfolding operationsOf
   divisors-value n e h =
       divisors-follow n (e .divisors) (follows-left v n (map divisorOperation (e .divisors)) (chains (n + length (e .divisors)) (e .remainingRows)) h)
 
-  pub outputs-remaining : (n : ℕ) (e : Eliminated) → Follows v n (operationsOf n e) → map (outputOf v) (outputsOf n e) ≡ map (rowValue v) (e .remainingRows)
-  unfolding operationsOf outputsOf
-  outputs-remaining n e h =
+  pub chains-follow : (n : ℕ) (e : Eliminated) → Follows v n (operationsOf n e) → Follows v (n + length (e .divisors)) (chains (n + length (e .divisors)) (e .remainingRows))
+  unfolding operationsOf
+  chains-follow n e h =
       let next : ℕ = n + length (e .divisors) in
       let made : List Operation = map divisorOperation (e .divisors) in
-      row-outputs-value next (e .remainingRows)
-      (subst (λ (k : ℕ). Follows v (n + k) (chains next (e .remainingRows))) (length-map (e .divisors) divisorOperation)
-      (follows-right v n made (chains next (e .remainingRows)) h))
+      subst (λ (k : ℕ). Follows v (n + k) (chains next (e .remainingRows))) (length-map (e .divisors) divisorOperation)
+      (follows-right v n made (chains next (e .remainingRows)) h)
+
+  pub outputs-remaining : (n : ℕ) (e : Eliminated) → Follows v n (operationsOf n e) → map (outputOf v) (outputsOf n e) ≡ map (rowValue v) (e .remainingRows)
+  unfolding outputsOf
+  outputs-remaining n e h = row-outputs-value (n + length (e .divisors)) (e .remainingRows) (chains-follow n e h)
 
   pub outputs-value : (n : ℕ) (rows : List Row) (e : Eliminated) → Stepped n rows e → Follows v n (operationsOf n e) → map (outputOf v) (outputsOf n e) ≡ map (rowValue v) rows
   outputs-value n rows e s h = outputs-remaining n e h ∙ steps-value v s (divisors-value n e h)
