@@ -89,9 +89,9 @@ module _ (s positions widest n : ℕ) (rows : List Row) (e : Eliminated) (some :
       (both-outputs (OutputInRange positions (n + length os)) (λ o. width s (outputForm n os o) ≤ widest) (outputsOf n e)
       (outputs-in-range positions n rows e some inputs w steps) (narrow .outputs))
 
-  pub compiled-netlist : (m : ℕ) → 1 ≤ m → m ≤ 8 → 1 ≤ n → n ≤ 8 → length rows ≡ m → plainCount rows ≤ 504 → CompiledNetlist s positions widest (netlistOf s m n e)
+  pub compiled-netlist : (m most : ℕ) → 1 ≤ m → m ≤ 8 → 1 ≤ n → n ≤ 8 → length rows ≡ m → plainCount rows ≤ most → CompiledNetlist s positions widest most (netlistOf s m n e)
   unfolding netlistOf recorded
-  compiled-netlist m rows-least rows-most columns-least columns-most one-per-row plain = record {
+  compiled-netlist m most rows-least rows-most columns-least columns-most one-per-row plain = record {
     rows-least = rows-least;
     rows-most = rows-most;
     columns-least = columns-least;

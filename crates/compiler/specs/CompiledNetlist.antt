@@ -1,5 +1,5 @@
--- Document 01, "Netlist and board machine": what every compiled netlist is, over samples of s bits, shifts below a number of positions
--- and widths up to a widest one (16, 16 and 35 in document 01).
+-- Document 01, "Netlist and board machine": what every compiled netlist is, over samples of s bits, shifts below a number of positions,
+-- widths up to a widest one and a most number of operations (16, 16, 35 and 504 in document 01).
 -- Assumes nothing.
 use Prim.Native.Nat.{ℕ, _+_, _≤_, _<_}
 use mathlib.Core.Path.{_≡_}
@@ -30,12 +30,12 @@ pub record CompiledOutput (s positions widest n : ℕ) (os : List Operation) (o 
   pub width : IsWidth s n (λ xs. outputValue (machine xs os) o) (o .width)
   pub narrow : o .width ≤ widest
 
-pub record CompiledNetlist (s positions widest : ℕ) (net : Netlist) : Type 0 where
+pub record CompiledNetlist (s positions widest most : ℕ) (net : Netlist) : Type 0 where
   pub rows-least : 1 ≤ net .head .m
   pub rows-most : net .head .m ≤ 8
   pub columns-least : 1 ≤ net .head .n
   pub columns-most : net .head .n ≤ 8
-  pub few : net .head .operations ≤ 504
+  pub few : net .head .operations ≤ most
   pub count : length (net .operations) ≡ net .head .operations
   pub one-per-row : length (net .outputs) ≡ net .head .m
   pub operation : (before after : List Operation) (o : Operation) → net .operations ≡ before ++ (o ∷ after)
