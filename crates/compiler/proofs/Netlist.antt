@@ -13,7 +13,7 @@ use Rattle.width.specs.Width.{width}
 use Rattle.elimination.specs.Rows.{Row, WellFormed, EachRow, plainCount}
 use Rattle.elimination.specs.Elimination.{Eliminated}
 use Rattle.compiler.specs.Compile.{operationsOf, outputsOf, withWidth, withWidths, outputWithWidth, netlistOf}
-use Rattle.compiler.specs.CompiledNetlist.{CompiledOperation, CompiledOutput, CompiledNetlist}
+use Rattle.compiler.specs.Compiled.{CompiledOperation, CompiledOutput, CompiledNetlist}
 use Rattle.compiler.proofs.Counts.{Stepped, operations-fewer, netlist-operations, netlist-outputs, length-with-widths}
 use Rattle.compiler.proofs.Operands.{OperationInRange, EachOperation, operations-in-range, OutputInRange, EachOutput, outputs-in-range}
 use Rattle.compiler.proofs.Widths.{depth-with-widths, each-with-width, each-output-with-width, operation-width, output-width, zero-output-width}

@@ -1,5 +1,5 @@
 pub mod Chains
 pub mod Compile
 pub mod Limits
-pub mod CompiledNetlist
+pub mod Compiled
 pub mod Marked
