@@ -1,19 +1,16 @@
 -- Document 01, "Netlist and board machine": what is proved of any sequence of steps, said of the netlist of a matrix within the limits, and
 -- of compile's netlist, bytes and answer.
 -- Assumes nothing.
-use Prim.Native.Nat.{ℕ, zero, suc, _+_, _*_, _^_, _≤_, _<_}
-use mathlib.Core.Path.{_≡_, refl, sym, ap, _∙_}
-use mathlib.Core.Bool.{true, false}
+use Prim.Native.Nat.{ℕ, suc, _+_, _*_, _≤_, _<_}
+use mathlib.Core.Path.{_≡_, refl, ap, _∙_}
 use mathlib.Core.List.{List, [], _∷_, _++_, map}
 use native.Mathlib.Omega.{arith}
-use lib.Dec.{ltb}
 use lib.IntN.{ℤ}
 use lib.ListN.{length, drop}
 use borrow.Author.Tests.{lt-ltb, le-ltb}
 use Rattle.layout.specs.declared.Operation.{Operation}
 use Rattle.layout.specs.declared.Output.{Output}
 use Rattle.layout.specs.Matrix.{matrixRefusal, matrix, rows, columns}
-use Rattle.layout.specs.Records.{Netlist, netlistBytes}
 use Rattle.layout.proofs.LittleEndian.{AreBytes}
 use Rattle.width.specs.Machine.{machine, outputValue, times, depth}
 use Rattle.width.proofs.DepthLaws.{depth-at-most}
@@ -22,9 +19,9 @@ use Rattle.elimination.specs.Elimination.{Eliminated, smallestFirst, matrixElim
 use Rattle.elimination.proofs.Order.{Columns, matrix-well-formed}
 use Rattle.elimination.proofs.Counts.{plain-within, steps-twice}
 use Rattle.elimination.proofs.Elimination.{steps-of}
-use Rattle.compiler.specs.Compile.{positions, sampleWidth, operationsOf, outputsOf, withWidths, outputWithWidth, netlistOf, compileRefused, eliminationOf, compiledNetlist, compiledBytes, compileAccepted, compileAnswer, compileBuffer}
+use Rattle.compiler.specs.Compile.{positions, sampleWidth, operationsOf, outputsOf, outputWithWidth, netlistOf, compileRefused, eliminationOf, compiledNetlist, compiledBytes, compileAccepted, compileAnswer, compileBuffer}
 use Rattle.compiler.specs.Compiled.{CompiledNetlist, AcceptedAnswer}
-use Rattle.compiler.specs.Limits.{RowsWithin, WithinLimits}
+use Rattle.compiler.specs.Limits.{WithinLimits}
 use Rattle.compiler.proofs.Limits.{rows-columns, accepted-within}
 use Rattle.compiler.proofs.Counts.{Stepped, operations-count, operations-fewer, netlist-length}
 use Rattle.compiler.proofs.Values.{machine-times}

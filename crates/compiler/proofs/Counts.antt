@@ -1,20 +1,20 @@
 -- Document 01, "Netlist and board machine": how many operations, outputs and bytes a netlist has, after any sequence of steps.
 -- Assumes nothing.
-use Prim.Native.Nat.{ℕ, zero, suc, _+_, _*_, _≤_, pred}
+use Prim.Native.Nat.{ℕ, suc, _+_, _*_, _≤_, pred}
 use mathlib.Core.Path.{_≡_, refl, ap, _∙_}
 use mathlib.Core.Bool.{Bool}
-use mathlib.Core.List.{List, [], _∷_, _++_, map}
+use mathlib.Core.List.{List, [], _∷_, map}
 use native.Mathlib.Omega.{arith}
 use lib.ListN.{length, length-append, length-map}
 use Rattle.layout.specs.declared.Operation.{Operation}
-use Rattle.layout.specs.Records.{Netlist, netlistBytes}
+use Rattle.layout.specs.Records.{netlistBytes}
 use Rattle.layout.proofs.Lengths.{length-netlist}
 use Rattle.elimination.specs.declared.Divisor.{Divisor}
 use Rattle.elimination.specs.Rows.{Row, plainCount}
 use Rattle.elimination.specs.Elimination.{Eliminated, rowsAfter}
 use Rattle.elimination.specs.Steps.{Steps, end, step}
 use Rattle.elimination.proofs.Counts.{steps-operations, steps-twice}
-use Rattle.compiler.specs.Chains.{divisorOperation, chainFrom, chain, chains, rowOutput, rowOutputs}
+use Rattle.compiler.specs.Chains.{divisorOperation, chainFrom, chain, chains, rowOutputs}
 use Rattle.compiler.specs.Compile.{operationsOf, outputsOf, withWidths, outputWithWidth, netlistOf}
 
 -- e is what some sequence of steps from the rows gives, with the inputs as the symbols below n

@@ -1,11 +1,11 @@
 -- Document 01, "widths .. compiled ones at most 35": a compiled width is at most the number of positions, the sample width and the bits
 -- that the number of columns needs, added up (16 + 16 + 3), after any sequence of steps.
 -- Assumes nothing.
-use Prim.Native.Nat.{ℕ, zero, suc, _+_, _*_, _-_, _/_, _^_, _≤_, _<_}
-use mathlib.Core.Path.{_≡_, refl, sym, ap, _∙_}
+use Prim.Native.Nat.{ℕ, suc, _+_, _*_, _-_, _^_, _≤_, _<_}
+use mathlib.Core.Path.{_≡_, sym, ap, _∙_}
 use mathlib.Core.List.{List, [], _∷_}
 use native.Mathlib.Omega.{arith}
-use native.Mathlib.Nat.{mul-le-mul, mul-le-mul-left, mul-le-mul-right, pow-succ'}
+use native.Mathlib.Nat.{mul-le-mul-left, mul-le-mul-right, pow-succ'}
 use lib.IntN.{ℤ, pos, natAbs}
 use lib.ListN.{length, getD}
 use lib.Pow.{pow-add, pow-pos}

@@ -1,13 +1,13 @@
 -- Document 01, "Netlist and board machine": the board machine's outputs on the operations of a matrix are each row times the samples,
 -- after any sequence of steps.
 -- Assumes nothing.
-use Prim.Native.Nat.{ℕ, zero, suc, _+_, _*_, _-_, _^_, _≤_, _<_}
+use Prim.Native.Nat.{ℕ, suc, _+_, _^_, _≤_, _<_}
 use mathlib.Core.Path.{_≡_, refl, sym, ap, ap₂, _∙_, subst}
-use mathlib.Core.Bool.{Bool, true, false, not, xor}
+use mathlib.Core.Bool.{Bool, true, false, xor}
 use mathlib.Core.List.{List, [], _∷_, _++_, map}
 use native.Mathlib.Omega.{arith}
 use lib.IntN.{ℤ, pos, negℤ, _+ℤ_, _*ℤ_, *ℤ-comm, +ℤ-assoc, +ℤ-idr, negℤ-+ℤ, negℤ-negℤ}
-use lib.ListN.{length, length-append, length-map}
+use lib.ListN.{length, length-map}
 use Rattle.integers.proofs.Expression.{at, nat, _⊗_, equal}
 use Rattle.term.specs.declared.Term.{Term}
 use Rattle.layout.specs.declared.Operation.{Operation}
@@ -20,7 +20,7 @@ use Rattle.elimination.specs.Divisors.{divisorValue}
 use Rattle.elimination.specs.Elimination.{Eliminated}
 use Rattle.elimination.proofs.Order.{matrix-well-formed}
 use Rattle.elimination.proofs.Value.{Values, steps-value}
-use Rattle.elimination.proofs.Matrix.{Enough, coefficientsTimes, row-value}
+use Rattle.elimination.proofs.Matrix.{coefficientsTimes, row-value}
 use Rattle.compiler.specs.Chains.{signOf, divisorOperation, chainFrom, chain, chains, rowOutput, rowOutputs}
 use Rattle.compiler.specs.Compile.{operationsOf, outputsOf}
 use Rattle.compiler.specs.Limits.{RowsWithin}

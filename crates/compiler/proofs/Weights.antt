@@ -2,14 +2,14 @@
 -- at most the weight of a row of the matrix in its column, which is at most a third of the power of two above the digits (43,690 for 16
 -- positions), after any sequence of steps.
 -- Assumes nothing.
-use Prim.Native.Nat.{ℕ, zero, suc, _+_, _*_, _-_, _/_, _^_, _≤_, _<_}
+use Prim.Native.Nat.{ℕ, suc, _+_, _*_, _/_, _^_, _≤_, _<_}
 use mathlib.Core.Path.{_≡_, refl, sym, ap, ap₂, _∙_, subst}
 use mathlib.Core.Bool.{Bool, true, false, xor}
 use mathlib.Core.List.{List, [], _∷_, _++_, map, List·Memᴰ, List·Memᴰ·head, List·Memᴰ·tail}
 use native.Mathlib.Omega.{arith}
 use native.Mathlib.Decide.{decLt}
-use native.Mathlib.Nat.{mul-le-mul, mul-le-mul-left, mul-le-mul-right, pow-succ'}
-use lib.IntN.{ℤ, pos, natAbs, negℤ, _+ℤ_, _*ℤ_}
+use native.Mathlib.Nat.{mul-le-mul-right, pow-succ'}
+use lib.IntN.{ℤ, pos, natAbs, negℤ}
 use lib.ListN.{length, getD, length-append, length-map, List·getD-append, List·getD-map}
 use lib.Pow.{pow-mono}
 use lib.Seq.{getD-at}
@@ -19,7 +19,7 @@ use Rattle.integers.proofs.Size.{abs-+, abs-neg, abs-*}
 use Rattle.term.specs.declared.Term.{Term}
 use Rattle.layout.specs.declared.Operation.{Operation}
 use Rattle.layout.specs.declared.Output.{Output}
-use Rattle.width.specs.Machine.{entryAt, shifted, joined, machine, unit, outputValue, entryForm, outputForm}
+use Rattle.width.specs.Machine.{entryAt, shifted, joined, machine, unit, outputValue}
 use Rattle.width.proofs.MachineLaws.{Follows, machine-keeps}
 use Rattle.width.proofs.FormLaws.{length-unit, unit-same, unit-other}
 use Rattle.elimination.specs.declared.Divisor.{Divisor}
@@ -28,10 +28,9 @@ use Rattle.elimination.specs.Elimination.{Eliminated}
 use Rattle.elimination.specs.Weights.{termWeight, rowWeight, divisorWeight, Weights, ColumnWeight}
 use Rattle.elimination.proofs.Tests.{by-bool}
 use Rattle.elimination.proofs.Order.{Columns, DivisorsWithin, matrix-well-formed, steps-well-formed, steps-divisors-within}
-use Rattle.elimination.proofs.Value.{Values}
 use Rattle.elimination.proofs.Weights.{WeightsWithin, steps-weights-within, steps-rows-within}
 use Rattle.elimination.proofs.Matrix.{matrix-weights, row-within, values-within}
-use Rattle.compiler.specs.Chains.{signOf, chainFrom, chain, chains, rowOutputs, divisorOperation}
+use Rattle.compiler.specs.Chains.{signOf, chainFrom, chain, chains}
 use Rattle.compiler.specs.Compile.{operationsOf, outputsOf}
 use Rattle.compiler.proofs.Counts.{Stepped, length-chain, length-chains, length-operations}
 use Rattle.compiler.proofs.Operands.{EachOutput}

@@ -1,17 +1,17 @@
 -- Document 01, "Netlist and board machine": each recorded width is the width of its operation's or output's value, and recording
 -- widths changes nothing else.
 -- Assumes nothing.
-use Prim.Native.Nat.{ℕ, zero, suc, _+_, _-_, _^_, _≤_, _<_}
-use mathlib.Core.Path.{_≡_, refl, sym, ap, _∙_, subst}
+use Prim.Native.Nat.{ℕ, zero, suc, _+_, _≤_, _<_}
+use mathlib.Core.Path.{_≡_, refl, sym, ap}
 use mathlib.Core.List.{List, [], _∷_, _++_, map}
 use native.Mathlib.Omega.{arith}
-use lib.IntN.{ℤ, pos, negℤ, _-ℤ_}
+use lib.IntN.{ℤ, pos}
 use lib.ListN.{length, replicate}
 use Rattle.integers.proofs.Expression.{nat, minus, _⊝_, at-most}
 use Rattle.layout.specs.declared.Operation.{Operation}
 use Rattle.layout.specs.declared.Output.{Output}
 use Rattle.width.specs.Machine.{entryAt, shifted, operationValue, machine, signed, outputValue, operationDepth, depths, largest, depth, entryForm, outputForm}
-use Rattle.width.specs.Width.{Within, IsWidth, width}
+use Rattle.width.specs.Width.{IsWidth, width}
 use Rattle.width.proofs.WidthLaws.{width-same, width-unique, entry-width-is, output-width-is}
 use Rattle.compiler.specs.Compile.{withWidth, withWidths, outputWithWidth}
 use Rattle.compiler.proofs.Operands.{EachOperation, EachOutput}
@@ -32,6 +32,12 @@ module _ (s n : ℕ) (all : List Operation) where
   pub depth-with-widths : (symbol : ℕ) (os : List Operation) → depth n (withWidths s n all symbol os) ≡ depth n os
   unfolding depth
   depth-with-widths symbol os = ap largest (depths-with-widths symbol os (replicate n 0))
+
+  -- only the widths differ
+  pub with-widths-keep : (symbol : ℕ) (os : List Operation) → map (withWidth 0) (withWidths s n all symbol os) ≡ map (withWidth 0) os
+  unfolding withWidths
+  with-widths-keep symbol [] = refl
+  with-widths-keep symbol (o ∷ os) = ap (λ l. withWidth 0 o ∷ l) (with-widths-keep (suc symbol) os)
 
   -- what holds of each operation with its width, from what holds of it without; symbols are below a limit
   pub each-with-width : (P Q : ℕ → Operation → Type 0) (limit : ℕ)

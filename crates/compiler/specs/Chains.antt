@@ -1,11 +1,10 @@
 -- Document 01, "Netlist and board machine": the operations and outputs of divisors and remaining rows. Widths are 0 here; `Compile`
 -- fills them in.
 -- Assumes nothing.
-use Prim.Native.Nat.{ℕ, zero, suc, _+_}
+use Prim.Native.Nat.{ℕ, suc, _+_}
 use mathlib.Core.Bool.{Bool, true, false, xor}
-use mathlib.Core.List.{List, [], _∷_, _++_, map}
+use mathlib.Core.List.{List, [], _∷_, _++_}
 use lib.ListN.{length}
-use Rattle.term.specs.declared.Term.{Term}
 use Rattle.elimination.specs.declared.Divisor.{Divisor}
 use Rattle.elimination.specs.Rows.{Row}
 use Rattle.layout.specs.declared.Operation.{Operation}

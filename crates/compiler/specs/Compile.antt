@@ -4,7 +4,6 @@ use Prim.Native.Nat.{ℕ, zero, suc, _+_}
 use mathlib.Core.Bool.{true, false}
 use mathlib.Core.List.{List, [], _∷_, _++_, map}
 use lib.Dec.{ltb}
-use lib.IntN.{ℤ}
 use lib.ListN.{length, drop}
 use Rattle.elimination.specs.Rows.{matrixRows, plainCount}
 use Rattle.elimination.specs.Elimination.{Eliminated, matrixElimination}
