@@ -26,12 +26,12 @@ Stepped n rows e = Steps n rows (e .divisors) (e .replacements) (e .remainingRow
 length-chain-from : (symbol shift : ℕ) (turned : Bool) (next : ℕ) (r : Row) → length (chainFrom symbol shift turned next r) ≡ length r
 unfolding chainFrom
 length-chain-from symbol shift turned next [] = refl
-length-chain-from symbol shift turned next (t ∷ r) = ap suc (length-chain-from next 0 turned (suc next) r)
+length-chain-from symbol shift turned next (t ∷ r) = ap suc (length-chain-from _ _ _ _ r)
 
 pub length-chain : (next : ℕ) (r : Row) → length (chain next r) ≡ pred (length r)
 unfolding chain
 length-chain next [] = refl
-length-chain next (t ∷ r) = length-chain-from (t .symbol) (t .exponent) (t .negative) next r
+length-chain next (t ∷ r) = length-chain-from _ _ _ _ r
 
 pub length-chains : (next : ℕ) (rows : List Row) → length (chains next rows) ≡ plainCount rows
 unfolding chains plainCount

@@ -3,7 +3,7 @@
 -- Assumes nothing.
 use Prim.Native.Nat.{ℕ, zero, suc, _+_, _≤_, _<_}
 use mathlib.Core.Path.{_≡_, refl, sym, subst}
-use mathlib.Core.Bool.{Bool, true, false, xor}
+use mathlib.Core.Bool.{Bool, true, false}
 use mathlib.Core.List.{List, [], _∷_, _++_, map, List·Memᴰ, List·Memᴰ·head, List·Memᴰ·tail}
 use native.Mathlib.Omega.{arith}
 use lib.ListN.{length, length-append, length-map}
@@ -52,6 +52,7 @@ append-in-range positions symbol (o ∷ os) ps h k =
 -- ---- divisors and chains
 
 sign-in-range : (b : Bool) → signOf b ≤ 1
+unfolding signOf
 sign-in-range false = omega arith
 sign-in-range true = omega arith
 
@@ -80,13 +81,13 @@ module _ (positions limit : ℕ) (some : 1 ≤ positions) where
   chain-from-in-range symbol shift turned next (t ∷ r) h k l w =
       let first = w t (List·Memᴰ·head refl) in (
         record {
-          sign = sign-in-range (xor turned (t .negative));
+          sign = sign-in-range _;
           first-shift = k;
           second-shift = first .0;
           first-earlier = h;
           second-earlier = omega (arith, first .1);
         },
-        chain-from-in-range next 0 turned (suc next) r (omega arith) (omega arith) (omega arith) (λ u m. w u (List·Memᴰ·tail m)),
+        chain-from-in-range next _ _ (suc next) r (omega arith) (omega arith) (omega arith) (λ u m. w u (List·Memᴰ·tail m)),
       )
 
   chain-in-range : (next : ℕ) (r : Row) → limit ≤ next → TermsWithin positions limit r → OperationsInRange positions next (chain next r)
@@ -94,7 +95,7 @@ module _ (positions limit : ℕ) (some : 1 ≤ positions) where
   chain-in-range next [] l w = tt
   chain-in-range next (t ∷ r) l w =
       let first = w t (List·Memᴰ·head refl) in
-      chain-from-in-range (t .symbol) (t .exponent) (t .negative) next r (omega (arith, first .1)) (first .0) l (λ u m. w u (List·Memᴰ·tail m))
+      chain-from-in-range _ _ _ next r (omega (arith, first .1)) (first .0) l (λ u m. w u (List·Memᴰ·tail m))
 
   terms-within : (r : Row) → WellFormed positions limit r → TermsWithin positions limit r
   terms-within r w t m = (w .exponents t m, w .symbols t m)
@@ -136,6 +137,9 @@ EachOutput P (o ∷ os) = P o × EachOutput P os
 abbrev pub OutputsInRange : ℕ → ℕ → List Output → Type 0
 OutputsInRange positions symbols os = EachOutput (OutputInRange positions symbols) os
 
+sign-of-output : (b : Bool) → signOf b ≤ 2
+sign-of-output b = omega (arith, sign-in-range b)
+
 never-zero : {A : Type 0} (b : Bool) → signOf b ≡ 2 → A
 never-zero b e = absurd (omega (arith, sign-in-range b))
 
@@ -146,17 +150,17 @@ module _ (positions limit symbols : ℕ) (some : 1 ≤ positions) (inputs : 1 �
   row-output-in-range next (t ∷ []) l h w =
       let first = w t (List·Memᴰ·head refl) in
       record {
-        sign = omega (arith, sign-in-range (t .negative));
+        sign = sign-of-output _;
         shift = first .0;
         symbol = omega (arith, first .1);
-        zero = never-zero (t .negative);
+        zero = never-zero _;
       }
   row-output-in-range next (t ∷ u ∷ r) l h w =
       record {
-        sign = omega (arith, sign-in-range (t .negative));
+        sign = sign-of-output _;
         shift = some;
         symbol = omega (arith, length-chain next (t ∷ u ∷ r));
-        zero = never-zero (t .negative);
+        zero = never-zero _;
       }
 
   row-outputs-in-range : (next : ℕ) (rows : List Row) → limit ≤ next → next + length (chains next rows) ≤ symbols → EachRow (WellFormed positions limit) rows

@@ -35,12 +35,19 @@ outputOf v o = signed (o .sign) (shifted (v (o .symbol)) (o .shift))
 -- ---- signs and shifts, as the machine and as a row have them
 
 joined-is : (b : Bool) (x y : ℤ) (s : ℕ) → joined (signOf b) x (shifted y s) ≡ x +ℤ signedBy b (pos (2 ^ s) *ℤ y)
+unfolding signOf
 joined-is false x y s = ap (λ z. x +ℤ z) (*ℤ-comm y (pos (2 ^ s)))
 joined-is true x y s = ap (λ z. x +ℤ negℤ z) (*ℤ-comm y (pos (2 ^ s)))
 
 signed-is : (b : Bool) (y : ℤ) (s : ℕ) → signed (signOf b) (shifted y s) ≡ signedBy b (pos (2 ^ s) *ℤ y)
+unfolding signOf
 signed-is false y s = *ℤ-comm y (pos (2 ^ s))
 signed-is true y s = ap negℤ (*ℤ-comm y (pos (2 ^ s)))
+
+signed-sign : (b : Bool) (z : ℤ) → signed (signOf b) z ≡ signedBy b z
+unfolding signOf
+signed-sign false z = refl
+signed-sign true z = refl
 
 not-shifted : (z : ℤ) → shifted z 0 ≡ z
 not-shifted z = equal (at z ⊗ nat 1) (at z) (omega arith)
@@ -121,10 +128,6 @@ module _ (v : ℕ → ℤ) where
       ∙ ap (signedBy (t .negative)) (not-shifted (v (next + length r)) ∙ chain-sum (t .symbol) (t .exponent) (t .negative) next u r h)
       ∙ signed-plus (t .negative) (shifted (v (t .symbol)) (t .exponent)) (rowSum (turnedValue (t .negative)) (u ∷ r))
       ∙ ap₂ _+ℤ_ (ap (signedBy (t .negative)) (*ℤ-comm (v (t .symbol)) (pos (2 ^ t .exponent)))) (turned-sum (t .negative) (u ∷ r))
-    where
-      signed-sign : (b : Bool) (z : ℤ) → signed (signOf b) z ≡ signedBy b z
-      signed-sign false z = refl
-      signed-sign true z = refl
 
   pub row-outputs-value : (next : ℕ) (rows : List Row) → Follows v next (chains next rows) → map (outputOf v) (rowOutputs next rows) ≡ map (rowValue v) rows
   unfolding chains rowOutputs

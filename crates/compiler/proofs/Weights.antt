@@ -101,6 +101,7 @@ module _ (v : ℕ → ℤ) (w : ℕ → ℕ) where
       omega arith
 
   joined-small : (b : Bool) (x y : ℤ) → natAbs (joined (signOf b) x y) ≤ natAbs x + natAbs y
+  unfolding signOf
   joined-small false x y = abs-+ x y
   joined-small true x y = omega (arith, abs-+ x (negℤ y), abs-neg y)
 
