@@ -2,6 +2,7 @@ pub mod Tests
 pub mod Same
 pub mod RowOrder
 pub mod Taken
+pub mod Visit
 pub mod Replaced
 pub mod Value
 pub mod Order
