@@ -164,6 +164,12 @@ module _ (v : ℕ → ℤ) where
 abbrev pub weightBound : ℕ → ℕ
 weightBound positions = 2 ^ suc positions / 3
 
+pub bound-of-16 : weightBound 16 ≡ 43690
+bound-of-16 = refl
+
+pub bound-of-24 : weightBound 24 ≡ 11184810
+bound-of-24 = refl
+
 module _ (positions n : ℕ) (m : List (List ℤ)) (e : Eliminated) (some : 1 ≤ positions) (c : Columns n m) (steps : Stepped n (matrixRows positions m) e)
     (column : ℕ) (inside : column < n) where
   abbrev bound : ℕ
