@@ -28,6 +28,10 @@ marked-banks = record {
   operations-four = refl;
   depth-four = refl;
   widths = marked-widths;
+  compiled-sum = refl;
+  compiled-negated = refl;
+  compiled-eight = refl;
+  output-eight = refl;
   bytes-three = refl;
   answer-three = refl;
 }
