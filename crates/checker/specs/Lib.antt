@@ -1,0 +1,4 @@
+pub mod Read
+pub mod Check
+pub mod Run
+pub mod Exact
