@@ -1,1 +1,4 @@
+pub mod Bytes
 pub mod Records
+pub mod Matrix
+pub mod Step

@@ -1,6 +1,9 @@
--- Document 01, "Netlist and board machine": a netlist as data.
+-- Document 01, "Netlist and board machine": a netlist as data, and its records as bytes.
 -- Assumes nothing.
-use mathlib.Core.List.{List}
+use Prim.Native.Nat.{ℕ}
+use mathlib.Core.List.{List, [], _∷_, _++_, flatMap}
+use lib.ListN.{getD}
+use Rattle.layout.specs.Bytes.{littleEndian, word, recordBytes}
 use Rattle.layout.specs.declared.Head.{Head}
 use Rattle.layout.specs.declared.Operation.{Operation}
 use Rattle.layout.specs.declared.Output.{Output}
@@ -12,3 +15,53 @@ pub record Netlist : Type 0 where
   pub operations : List Operation
   pub outputs : List Output
   pub totals : Totals
+
+-- ---- the payload of each kind, field by field
+
+-- m, n (1 byte each), operations (2 bytes)
+unfoldable pub headPayload : Head → List ℕ
+headPayload h = h .m ∷ h .n ∷ littleEndian (h .operations)
+
+-- 0 add or 1 subtract (1 byte), A (2 bytes), sA (1), B (2), sB (1), width (1)
+unfoldable pub operationPayload : Operation → List ℕ
+operationPayload o = o .sign ∷ littleEndian (o .a) ++ o .sa ∷ littleEndian (o .b) ++ o .sb ∷ o .width ∷ []
+
+-- 0 plus, 1 minus or 2 zero (1 byte), symbol (2), shift (1), width (1)
+unfoldable pub outputPayload : Output → List ℕ
+outputPayload o = o .sign ∷ littleEndian (o .symbol) ++ o .shift ∷ o .width ∷ []
+
+-- operations, depth (2 bytes each)
+unfoldable pub totalsPayload : Totals → List ℕ
+totalsPayload t = littleEndian (t .operations) ++ littleEndian (t .depth)
+
+-- ---- the records: kind 2, head; kind 3, operation; kind 4, output; kind 5, totals
+
+abbrev pub headBytes : Head → List ℕ
+headBytes h = recordBytes 2 (headPayload h)
+
+abbrev pub operationBytes : Operation → List ℕ
+operationBytes o = recordBytes 3 (operationPayload o)
+
+abbrev pub outputBytes : Output → List ℕ
+outputBytes o = recordBytes 4 (outputPayload o)
+
+abbrev pub totalsBytes : Totals → List ℕ
+totalsBytes t = recordBytes 5 (totalsPayload t)
+
+-- the head, the operations, the outputs, the totals
+unfoldable pub netlistBytes : Netlist → List ℕ
+netlistBytes n = headBytes (n .head) ++ flatMap operationBytes (n .operations) ++ flatMap outputBytes (n .outputs) ++ totalsBytes (n .totals)
+
+-- ---- the fields of a payload of each kind
+
+unfoldable pub headOf : List ℕ → Head
+headOf p = record { m = getD p 0 0; n = getD p 1 0; operations = word p 2 }
+
+unfoldable pub operationOf : List ℕ → Operation
+operationOf p = record { sign = getD p 0 0; a = word p 1; sa = getD p 3 0; b = word p 4; sb = getD p 6 0; width = getD p 7 0 }
+
+unfoldable pub outputOf : List ℕ → Output
+outputOf p = record { sign = getD p 0 0; symbol = word p 1; shift = getD p 3 0; width = getD p 4 0 }
+
+unfoldable pub totalsOf : List ℕ → Totals
+totalsOf p = record { operations = word p 0; depth = word p 2 }

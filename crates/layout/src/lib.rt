@@ -1,6 +1,9 @@
 // Document 01, "Matrix record" and "Netlist and board machine": the records, as data and as bytes.
-ghost use mathlib.Core.Path.{_≡_};
-ghost use Prim.Native.Nat.{_+_, _*_};
+pub mod bytes; // bytes.rt: little-endian numbers in lent bytes
+pub mod matrix; // matrix.rt: the matrix record: refusals 1 to 5, coefficients
+pub mod step; // step.rt: the step over a record
+pub mod write; // write.rt: a writer for each kind of record of a netlist
+pub mod read; // read.rt: a reader of the fields of each kind
 
 // Kind 2: m rows, n columns, the number of operations.
 pub struct Head {
@@ -31,24 +34,4 @@ pub struct Output {
 pub struct Totals {
     pub operations: u16,
     pub depth: u16,
-}
-
-// Two bytes, little-endian.
-pub fn word(low: u8, high: u8) -> u16
-    ensures { λ r. ⌜ r ≡ low + 256 * high ⌝ }
-{
-    (low as u16) + 256 * (high as u16)
-}
-
-// Nothing yet.
-pub fn shift_of(o: Output) -> u8
-    ensures { λ r. ⌜ r ≡ o .shift ⌝ }
-{
-    o.shift
-}
-
-pub fn op_of(o: Operation) -> u8
-    ensures { λ r. ⌜ r ≡ o .sa ⌝ }
-{
-    o.sa
 }

@@ -1,3 +1,4 @@
 pub mod Machine
 pub mod Width
+pub mod Table
 pub mod Marked

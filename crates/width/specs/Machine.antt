@@ -1,6 +1,6 @@
 -- Document 01, "Netlist and board machine": the board machine, depth, and the coefficients of an entry.
 -- Assumes nothing.
-use Prim.Native.Nat.{ℕ, zero, suc, _+_, _-_, _^_, max}
+use Prim.Native.Nat.{ℕ, zero, suc, _+_, _-_, _^_, _<_, max}
 use mathlib.Core.List.{List, [], _∷_, _++_, map}
 use lib.IntN.{ℤ, pos, negℤ, _+ℤ_, _-ℤ_, _*ℤ_}
 use lib.ListN.{getD, replicate}
@@ -27,6 +27,11 @@ unfoldable pub machine : List ℤ → List Operation → List ℤ
 machine entries [] = entries
 machine entries (o ∷ os) = machine (entries ++ (operationValue entries o ∷ [])) os
 
+-- A and B are earlier entries: the operands of each operation stand below its symbol, the first operation's being s
+abbrev pub Earlier : ℕ → List Operation → Type 0
+Earlier s [] = Unit {0}
+Earlier s (o ∷ os) = ((o .a < s) × (o .b < s)) × Earlier (suc s) os
+
 -- plus or minus an entry times 2^shift, or zero
 abbrev pub signed : ℕ → ℤ → ℤ
 signed zero z = z
@@ -44,9 +49,12 @@ times (c ∷ cs) (x ∷ xs) = c *ℤ x +ℤ times cs xs
 
 -- ---- depth: inputs 0, an operation 1 more than the deeper operand; the netlist's is the largest, 0 if there is no operation
 
+abbrev pub operationDepth : List ℕ → Operation → ℕ
+operationDepth ds o = suc (max (getD ds (o .a) 0) (getD ds (o .b) 0))
+
 unfoldable pub depths : List ℕ → List Operation → List ℕ
 depths ds [] = ds
-depths ds (o ∷ os) = depths (ds ++ (suc (max (getD ds (o .a) 0) (getD ds (o .b) 0)) ∷ [])) os
+depths ds (o ∷ os) = depths (ds ++ (operationDepth ds o ∷ [])) os
 
 unfoldable pub largest : List ℕ → ℕ
 largest [] = 0

@@ -33,25 +33,36 @@ pub record IsWidth (s n : ℕ) (value : List ℤ → ℤ) (w : ℕ) : Type 0 whe
 
 -- ---- how it is worked out, from the coefficients of the samples in the value
 
+-- a positive coefficient, else 0; and a negative one negated, else 0
+abbrev pub positivePart : ℤ → ℕ
+positivePart (pos c) = c
+positivePart (negsuc c) = 0
+
+abbrev pub negativePart : ℤ → ℕ
+negativePart (pos c) = 0
+negativePart (negsuc c) = suc c
+
 -- the sum of the positive coefficients, and that of the negative ones negated
 unfoldable pub positives : List ℤ → ℕ
 positives [] = 0
-positives (pos c ∷ cs) = c + positives cs
-positives (negsuc c ∷ cs) = positives cs
+positives (c ∷ cs) = positivePart c + positives cs
 
 unfoldable pub negatives : List ℤ → ℕ
 negatives [] = 0
-negatives (pos c ∷ cs) = negatives cs
-negatives (negsuc c ∷ cs) = suc c + negatives cs
+negatives (c ∷ cs) = negativePart c + negatives cs
 
--- the largest value, and the smallest one negated
-unfoldable pub highest : ℕ → List ℤ → ℕ
-unfolding positives negatives
-highest s cs = (2 ^ (s - 1) - 1) * positives cs + 2 ^ (s - 1) * negatives cs
+-- the largest value, where the positive coefficients sum to p and the negative ones to −q, and the smallest one negated
+abbrev pub highestOf : ℕ → ℕ → ℕ → ℕ
+highestOf s p q = (2 ^ (s - 1) - 1) * p + 2 ^ (s - 1) * q
 
-unfoldable pub lowest : ℕ → List ℤ → ℕ
-unfolding positives negatives
-lowest s cs = 2 ^ (s - 1) * positives cs + (2 ^ (s - 1) - 1) * negatives cs
+abbrev pub lowestOf : ℕ → ℕ → ℕ → ℕ
+lowestOf s p q = 2 ^ (s - 1) * p + (2 ^ (s - 1) - 1) * q
+
+abbrev pub highest : ℕ → List ℤ → ℕ
+highest s cs = highestOf s (positives cs) (negatives cs)
+
+abbrev pub lowest : ℕ → List ℤ → ℕ
+lowest s cs = lowestOf s (positives cs) (negatives cs)
 
 -- the smallest k, from k on, with m below 2^k, in f steps at the most
 unfoldable pub bitsFrom : ℕ → ℕ → ℕ → ℕ
@@ -63,6 +74,10 @@ unfoldable pub bits : ℕ → ℕ
 unfolding bitsFrom
 bits m = bitsFrom m 0 m
 
+-- the sign's bit, and those of the end that needs more
+abbrev pub widthOf : ℕ → ℕ → ℕ → ℕ
+widthOf s p q = suc (bits (max (highestOf s p q) (pred (lowestOf s p q))))
+
 unfoldable pub width : ℕ → List ℤ → ℕ
-unfolding highest lowest bits
-width s cs = suc (bits (max (highest s cs) (pred (lowest s cs))))
+unfolding positives negatives bits
+width s cs = widthOf s (positives cs) (negatives cs)

@@ -1,4 +1,4 @@
 // Document 01, "Netlist and board machine".
-pub fn one() -> u8 {
+fn one() -> u8 {
     1
 }

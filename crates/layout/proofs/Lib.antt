@@ -1,0 +1,4 @@
+pub mod LittleEndian
+pub mod Refusal
+pub mod MatrixRefusal
+pub mod Accepted

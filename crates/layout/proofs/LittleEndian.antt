@@ -1,0 +1,27 @@
+-- Laws of little-endian numbers and of lists of bytes.
+-- Assumes nothing.
+use Prim.Native.Nat.{ℕ, _+_, _*_, _/_, _%_, _<_}
+use mathlib.Core.Path.{_≡_}
+use mathlib.Core.List.{List, _++_}
+use native.Mathlib.Omega.{arith}
+use lib.ListN.{getD}
+use Rattle.layout.specs.Bytes.{littleEndian, word}
+
+-- every element is a byte: what is known of lent bytes
+abbrev pub AreBytes : List ℕ → Type 0
+AreBytes bytes = (i : ℕ) → getD bytes i 0 < 256
+
+-- two bytes are a number below 65,536
+pub word-below : (bytes : List ℕ) → AreBytes bytes → (place : ℕ) → word bytes place < 65536
+word-below bytes all place = omega (arith, all place, all (place + 1))
+
+-- a number's two bytes make the number
+pub word-of : (x : ℕ) (rest : List ℕ) → word (littleEndian x ++ rest) 0 ≡ x
+word-of x rest = omega arith
+
+-- two bytes are those of their number
+pub low-byte : (low high : ℕ) → low < 256 → (low + 256 * high) % 256 ≡ low
+low-byte low high l = omega arith
+
+pub high-byte : (low high : ℕ) → low < 256 → (low + 256 * high) / 256 ≡ high
+high-byte low high l = omega arith

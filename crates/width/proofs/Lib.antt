@@ -1,0 +1,7 @@
+-- Laws of the board machine, of linear forms, of widths and of depths, lowest first.
+pub mod MachineLaws
+pub mod FormLaws
+pub mod WidthLaws
+pub mod DepthLaws
+pub mod RangeLaws
+pub mod Marked

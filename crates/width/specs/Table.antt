@@ -1,0 +1,73 @@
+-- Document 01, "Netlist and board machine": what an operation and an output make of earlier entries, on tables that a caller lends:
+-- the coefficients of every entry, and the values or the depths of all entries by symbol.
+-- Assumes nothing.
+use Prim.Native.Nat.{ℕ, zero, suc, _+_, _*_, _-_, _^_, _<_, max}
+use mathlib.Core.Path.{_≡_}
+use mathlib.Core.List.{List, [], _∷_}
+use lib.IntN.{ℤ, pos, natAbs}
+use lib.ListN.{length, getD, set}
+use lib.Seq.{sets}
+use Rattle.layout.specs.declared.Operation.{Operation}
+use Rattle.layout.specs.declared.Output.{Output}
+use Rattle.width.specs.Machine.{shifted, joined, signed, operationValue, operationDepth, unit, machine}
+use Rattle.width.specs.Width.{positives, negatives}
+
+-- ---- the coefficients: those of a symbol stand in its row of eight
+
+abbrev pub coefficientAt : List ℤ → ℕ → ℕ → ℤ
+coefficientAt table symbol column = getD table (symbol * 8 + column) (pos 0)
+
+-- f of each of k columns, from column j on
+unfoldable pub columnsFrom : ℕ → ℕ → (ℕ → ℤ) → List ℤ
+columnsFrom j zero f = []
+columnsFrom j (suc k) f = f j ∷ columnsFrom (suc j) k f
+
+abbrev pub columns : ℕ → (ℕ → ℤ) → List ℤ
+columns n f = columnsFrom 0 n f
+
+abbrev pub row : List ℤ → ℕ → ℕ → List ℤ
+row table n symbol = columns n (coefficientAt table symbol)
+
+abbrev pub operationCoefficient : List ℤ → Operation → ℕ → ℤ
+operationCoefficient table o j =
+    joined (o .sign) (shifted (coefficientAt table (o .a) j) (o .sa)) (shifted (coefficientAt table (o .b) j) (o .sb))
+
+abbrev pub operationRow : List ℤ → ℕ → Operation → List ℤ
+operationRow table n o = columns n (operationCoefficient table o)
+
+abbrev pub outputRow : List ℤ → ℕ → Output → List ℤ
+outputRow table n o = columns n (λ j. signed (o .sign) (shifted (coefficientAt table (o .symbol) j) (o .shift)))
+
+-- the operation's coefficients written into the row of its symbol
+abbrev pub formAppended : List ℤ → ℕ → Operation → ℕ → List ℤ
+formAppended table n o symbol = sets table (symbol * 8) (operationRow table n o)
+
+-- the coefficients of k samples, from symbol i on, written into their rows
+unfoldable pub samplesFrom : ℕ → ℕ → ℕ → List ℤ → List ℤ
+unfolding unit
+samplesFrom n i zero table = table
+samplesFrom n i (suc k) table = samplesFrom n (suc i) k (sets table (i * 8) (unit n i))
+
+abbrev pub formsStarted : List ℤ → ℕ → List ℤ
+formsStarted table n = samplesFrom n 0 n table
+
+-- the table holds the coefficients of the entries after the operations os: those of column j are the values on the unit vector of j
+pub record HoldsForms (n : ℕ) (os : List Operation) (table : List ℤ) : Type 0 where
+  pub room : length table ≡ 4096
+  pub forms : (symbol j : ℕ) → symbol < n + length os → j < n → coefficientAt table symbol j ≡ getD (machine (unit n j) os) symbol (pos 0)
+
+-- ---- values and depths: that of a symbol stands at the symbol
+
+abbrev pub valueAppended : List ℤ → Operation → ℕ → List ℤ
+valueAppended values o symbol = set values symbol (operationValue values o)
+
+-- ---- what 64 bits hold
+
+-- z shifted by s is so small that the sum of two such numbers does not wrap
+pub record Small (z : ℤ) (s : ℕ) : Type 0 where
+  pub shift : s < 64
+  pub size : natAbs (shifted z s) < 2 ^ 62
+
+-- both ends of the range over samples of s bits are so small that nothing wraps where the width is worked out
+pub record Moderate (s : ℕ) (cs : List ℤ) : Type 0 where
+  pub spread : 2 ^ (s - 1) * (positives cs + negatives cs) < 2 ^ 62
