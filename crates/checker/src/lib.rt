@@ -19,3 +19,8 @@ pub struct RunAnswer {
     pub refusal: u8,
     pub place: usize,
 }
+
+// Whether a refusal is none.
+pub fn accepts(refusal: u8) -> bool {
+    refusal == 0
+}
