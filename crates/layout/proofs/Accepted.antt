@@ -1,17 +1,15 @@
 -- The step's refusals, each from what holds where it applies, and what an accepted step is.
 -- Assumes nothing.
-use Prim.Native.Nat.{ℕ, zero, suc, _+_, _-_, _<_, _≤_}
-use mathlib.Core.Path.{_≡_, refl, sym}
-use mathlib.Core.Bool.{Bool, true, false}
+use Prim.Native.Nat.{ℕ, _+_, _-_, _<_, _≤_}
+use mathlib.Core.Path.{_≡_}
 use mathlib.Core.List.{List, []}
 use native.Mathlib.Omega.{arith}
 use lib.Dec.{ltb}
-use lib.ListN.{length, take, drop}
+use lib.ListN.{take, drop}
 use borrow.Author.Tests.{lt-ltb, le-ltb, eq-eqb, ne-eqb, ltb-false}
 use Rattle.layout.proofs.Refusal.{passed}
 use Rattle.layout.specs.Bytes.{word}
 use Rattle.layout.specs.Step.{remaining, stepRefusal, stepNumbers, payloadAt}
-use Rattle.layout.specs.declared.step.StepNumbers.{StepNumbers}
 
 -- a whole record stands at a place
 pub record AcceptedStep (b : List ℕ) (place : ℕ) : Type 0 where

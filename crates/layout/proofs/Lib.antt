@@ -1,4 +1,10 @@
 pub mod LittleEndian
 pub mod Refusal
 pub mod MatrixRefusal
+pub mod MatrixRows
 pub mod Accepted
+pub mod Written
+pub mod Fields
+pub mod Lengths
+pub mod Found
+pub mod RecordKinds

@@ -2,3 +2,4 @@ pub mod Bytes
 pub mod Records
 pub mod Matrix
 pub mod Step
+pub mod Written

@@ -50,7 +50,7 @@ totalsBytes t = recordBytes 5 (totalsPayload t)
 
 -- the head, the operations, the outputs, the totals
 unfoldable pub netlistBytes : Netlist → List ℕ
-netlistBytes n = headBytes (n .head) ++ flatMap operationBytes (n .operations) ++ flatMap outputBytes (n .outputs) ++ totalsBytes (n .totals)
+netlistBytes n = headBytes (n .head) ++ (flatMap operationBytes (n .operations) ++ (flatMap outputBytes (n .outputs) ++ totalsBytes (n .totals)))
 
 -- ---- the fields of a payload of each kind
 

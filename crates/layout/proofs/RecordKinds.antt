@@ -1,0 +1,100 @@
+-- The kinds of a netlist's records, 2 to 5, under one law: a record that stands at a place is found and its fields read back, and
+-- where the step accepts a payload of the kind's length, the bytes are those of the fields read.
+-- Assumes nothing.
+use Prim.Native.Nat.{ℕ, _+_}
+use mathlib.Core.Path.{_≡_, refl, sym, ap, _∙_}
+use mathlib.Core.List.{List, _++_}
+use lib.ListN.{length, drop}
+use Rattle.layout.proofs.LittleEndian.{AreBytes}
+use Rattle.layout.proofs.Fields.{head-back, head-bytes, operation-back, operation-bytes, output-back, output-bytes, totals-back, totals-bytes}
+use Rattle.layout.proofs.Found.{accepted, step-finds, payload-found, behind-found, next-place, payload-bytes, record-there}
+use Rattle.layout.specs.Bytes.{recordBytes}
+use Rattle.layout.specs.Records.{headPayload, headOf, operationPayload, operationOf, outputPayload, outputOf, totalsPayload, totalsOf}
+use Rattle.layout.specs.Step.{stepNumbers, payloadAt}
+use Rattle.layout.specs.declared.Head.{Head}
+use Rattle.layout.specs.declared.Operation.{Operation}
+use Rattle.layout.specs.declared.Output.{Output}
+use Rattle.layout.specs.declared.Totals.{Totals}
+
+-- a kind whose fields are an A: its number, its payload and its length, the fields of a payload
+pub record Kind (A : Type 0) : Type 0 where
+  pub number : ℕ
+  pub size : ℕ
+  pub payload : A → List ℕ
+  pub fields : List ℕ → A
+  pub sized : (x : A) → length (payload x) ≡ size
+  pub back : (x : A) → fields (payload x) ≡ x
+  pub bytes : (p : List ℕ) → AreBytes p → length p ≡ size → payload (fields p) ≡ p
+
+abbrev pub head : Kind Head
+unfolding headPayload
+head = record { number = 2; size = 4; payload = headPayload; fields = headOf; sized = λ x. refl; back = head-back; bytes = head-bytes }
+
+abbrev pub operation : Kind Operation
+unfolding operationPayload
+operation = record {
+  number = 3;
+  size = 8;
+  payload = operationPayload;
+  fields = operationOf;
+  sized = λ x. refl;
+  back = operation-back;
+  bytes = operation-bytes;
+}
+
+abbrev pub output : Kind Output
+unfolding outputPayload
+output = record {
+  number = 4;
+  size = 5;
+  payload = outputPayload;
+  fields = outputOf;
+  sized = λ x. refl;
+  back = output-back;
+  bytes = output-bytes;
+}
+
+abbrev pub totals : Kind Totals
+unfolding totalsPayload
+totals = record {
+  number = 5;
+  size = 4;
+  payload = totalsPayload;
+  fields = totalsOf;
+  sized = λ x. refl;
+  back = totals-back;
+  bytes = totals-bytes;
+}
+
+module _ {A : Type 0} (k : Kind A) where
+  -- the bytes of a record of the kind
+  abbrev pub bytesOf : A → List ℕ
+  bytesOf x = recordBytes (k .number) (k .payload x)
+
+  -- what the step finds at a place: the fields x, and what is behind the record
+  pub record Found (b : List ℕ) (place : ℕ) (x : A) (behind : List ℕ) : Type 0 where
+    pub numbers : stepNumbers b place ≡ accepted (k .number) (place + (4 + k .size))
+    pub length-read : length (payloadAt b place) ≡ k .size
+    pub fields-read : k .fields (payloadAt b place) ≡ x
+    pub behind-next : drop (place + (4 + k .size)) b ≡ behind
+
+  -- a record that stands at a place is found
+  pub found : (b : List ℕ) (place : ℕ) (x : A) (behind : List ℕ) → drop place b ≡ bytesOf x ++ behind → Found b place x behind
+  found b place x behind there =
+      let p = k .payload x in
+      let same = payload-found b place (k .number) p behind there in
+      record {
+        numbers = step-finds b place (k .number) p behind there ∙ ap (λ (l : ℕ). accepted (k .number) (place + (4 + l))) (k .sized x);
+        length-read = ap length same ∙ k .sized x;
+        fields-read = ap (k .fields) same ∙ k .back x;
+        behind-next = ap (λ (l : ℕ). drop (place + (4 + l)) b) (sym (k .sized x)) ∙ behind-found b place (k .number) p behind there;
+      }
+
+  -- where the step accepts the kind and the payload has its length, the bytes are those of the fields read
+  pub there : (b : List ℕ) (place next : ℕ) → AreBytes b → stepNumbers b place ≡ accepted (k .number) next → length (payloadAt b place) ≡ k .size
+      → (drop place b ≡ bytesOf (k .fields (payloadAt b place)) ++ drop next b) × (next ≡ place + (4 + k .size))
+  there b place next all step l = (
+    record-there b place all (k .number) next step
+        ∙ ap (λ (p : List ℕ). recordBytes (k .number) p ++ drop next b) (sym (k .bytes (payloadAt b place) (payload-bytes b place all (k .number) next step) l)),
+    next-place b place all (k .number) next step ∙ ap (λ (n : ℕ). place + (4 + n)) l,
+  )
