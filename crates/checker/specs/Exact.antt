@@ -2,10 +2,9 @@
 -- Assumes nothing.
 use Prim.Native.Nat.{ℕ, _+_, _≤_, _<_}
 use mathlib.Core.Path.{_≡_}
-use mathlib.Core.Logic.{_⊎_}
 use mathlib.Core.List.{List, [], _∷_, _++_, map}
-use lib.IntN.{ℤ}
-use lib.ListN.{length}
+use lib.IntN.{ℤ, pos}
+use lib.ListN.{length, getD}
 use Rattle.layout.specs.declared.Head.{Head}
 use Rattle.layout.specs.declared.Operation.{Operation}
 use Rattle.layout.specs.declared.Output.{Output}
@@ -15,41 +14,68 @@ use Rattle.width.specs.Machine.{machine, entryAt, outputValue, times, depth}
 use Rattle.width.specs.Width.{Samples, IsWidth}
 use Rattle.checker.specs.Run.{netlistOutputs}
 
--- an operation that stands behind others of a netlist's operations os
-pub record IsOperation (n : ℕ) (os before : List Operation) (o : Operation) : Type 0 where
+-- ---- a netlist
+
+pub record HeadLimits (h : Head) : Type 0 where
+  pub rows-least : 1 ≤ h .m
+  pub rows-most : h .m ≤ 8
+  pub columns-least : 1 ≤ h .n
+  pub columns-most : h .n ≤ 8
+  pub few : h .operations ≤ 504
+
+-- fields in range, and operands earlier than the operation, whose symbol is given
+pub record OperationLimits (symbol : ℕ) (o : Operation) : Type 0 where
   pub sign : o .sign ≤ 1
   pub first-shift : o .sa ≤ 15
   pub second-shift : o .sb ≤ 15
-  pub first-earlier : o .a < n + length before
-  pub second-earlier : o .b < n + length before
-  pub width : IsWidth 16 n (λ xs. entryAt (machine xs os) (n + length before)) (o .width)
-  pub narrow : o .width ≤ 40
+  pub first-earlier : o .a < symbol
+  pub second-earlier : o .b < symbol
+
+-- fields in range, of a netlist with so many symbols; zero has symbol 0, shift 0, width 1
+pub record OutputLimits (symbols : ℕ) (o : Output) : Type 0 where
+  pub sign : o .sign ≤ 2
+  pub shift : o .shift ≤ 15
+  pub symbol : o .symbol < symbols
+  pub zero : o .sign ≡ 2 → (o .symbol ≡ 0) × (o .shift ≡ 0) × (o .width ≡ 1)
+
+-- the recorded width is the width of the value over all vectors of n samples, and at most 40
+pub record WidthRight (n : ℕ) (value : List ℤ → ℤ) (recorded : ℕ) : Type 0 where
+  pub width : IsWidth 16 n value recorded
+  pub narrow : recorded ≤ 40
+
+pub record TotalsRight (h : Head) (os : List Operation) (t : Totals) : Type 0 where
+  pub count : t .operations ≡ h .operations
+  pub deepest : t .depth ≡ depth (h .n) os
+
+-- an operation that stands behind others of a netlist's operations os
+pub record IsOperation (n : ℕ) (os before : List Operation) (o : Operation) : Type 0 where
+  pub limits : OperationLimits (n + length before) o
+  pub width : WidthRight n (λ xs. entryAt (machine xs os) (n + length before)) (o .width)
 
 -- an output of a netlist with the operations os
 pub record IsOutput (n : ℕ) (os : List Operation) (o : Output) : Type 0 where
-  pub sign : o .sign ≤ 2
-  pub shift : o .shift ≤ 15
-  pub symbol : o .symbol < n + length os
-  pub zero : o .sign ≡ 2 → (o .symbol ≡ 0) × (o .shift ≡ 0) × (o .width ≡ 1)
-  pub width : IsWidth 16 n (λ xs. outputValue (machine xs os) o) (o .width)
-  pub narrow : o .width ≤ 40
+  pub limits : OutputLimits (n + length os) o
+  pub width : WidthRight n (λ xs. outputValue (machine xs os) o) (o .width)
 
 pub record IsNetlist (net : Netlist) : Type 0 where
-  pub rows : (1 ≤ net .head .m) × (net .head .m ≤ 8)
-  pub columns : (1 ≤ net .head .n) × (net .head .n ≤ 8)
-  pub few : net .head .operations ≤ 504
+  pub head : HeadLimits (net .head)
   pub count : length (net .operations) ≡ net .head .operations
   pub one-per-row : length (net .outputs) ≡ net .head .m
   pub operation : (before after : List Operation) (o : Operation) → net .operations ≡ before ++ o ∷ after → IsOperation (net .head .n) (net .operations) before o
   pub output : (before after : List Output) (o : Output) → net .outputs ≡ before ++ o ∷ after → IsOutput (net .head .n) (net .operations) o
-  pub total-count : net .totals .operations ≡ net .head .operations
-  pub total-depth : net .totals .depth ≡ depth (net .head .n) (net .operations)
+  pub totals : TotalsRight (net .head) (net .operations) (net .totals)
 
 -- b is the bytes of the netlist
 pub record IsNetlistBytes (b : List ℕ) (net : Netlist) : Type 0 where
   pub netlist : IsNetlist net
   pub bytes : b ≡ netlistBytes net
 
+-- ---- what it computes
+
 -- for every vector of 16-bit samples the board machine's outputs are row times vector
 abbrev pub Computes : Netlist → List (List ℤ) → Type 0
 Computes net rows = (xs : List ℤ) → Samples 16 (net .head .n) xs → netlistOutputs net xs ≡ map (λ row. times row xs) rows
+
+-- output i is row i times vector for every vector of 16-bit samples
+abbrev pub ComputesRow : Netlist → List (List ℤ) → ℕ → Type 0
+ComputesRow net rows i = (xs : List ℤ) → Samples 16 (net .head .n) xs → getD (netlistOutputs net xs) i (pos 0) ≡ times (getD rows i []) xs

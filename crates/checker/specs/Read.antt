@@ -33,13 +33,25 @@ maxWidth = 40
 abbrev pub sampleWidth : ℕ
 sampleWidth = 16
 
--- ---- where each record starts
+-- ---- where each record starts, and the fields of the record there
+
+abbrev pub headAt : List ℕ → Head
+headAt bytes = headOf (payloadAt bytes 0)
 
 abbrev pub operationPlace : ℕ → ℕ
 operationPlace k = 8 + 12 * k
 
+abbrev pub operationAt : List ℕ → ℕ → Operation
+operationAt bytes k = operationOf (payloadAt bytes (operationPlace k))
+
 abbrev pub outputPlace : ℕ → ℕ → ℕ
 outputPlace operations i = operationPlace operations + 9 * i
+
+abbrev pub outputAt : List ℕ → ℕ → ℕ → Output
+outputAt bytes operations i = outputOf (payloadAt bytes (outputPlace operations i))
+
+abbrev pub totalsAt : List ℕ → ℕ → Totals
+totalsAt bytes place = totalsOf (payloadAt bytes place)
 
 -- ---- refusals of one record; 0 is none
 
@@ -60,7 +72,7 @@ unfolding recordRefusal
 headRefusal bytes =
     elim (recordRefusal bytes 0 2 8) [
       | suc r ↦ suc r
-      | zero ↦ elim (headInRange (headOf (payloadAt bytes 0))) [ true ↦ 0 | false ↦ 9 ]
+      | zero ↦ elim (headInRange (headAt bytes)) [ true ↦ 0 | false ↦ 9 ]
     ]
 
 -- 9: a field out of range, or an operand not earlier than its operation, whose symbol is given
@@ -75,9 +87,6 @@ widthRight recorded w = eqb recorded w && leb w maxWidth
 -- the width of an operation behind the operations os
 abbrev pub operationWidth : ℕ → List Operation → Operation → ℕ
 operationWidth n os o = width sampleWidth (entryForm n (os ++ (o ∷ [])) (n + length os))
-
-abbrev pub operationAt : List ℕ → ℕ → Operation
-operationAt bytes k = operationOf (payloadAt bytes (operationPlace k))
 
 -- the operation that follows the operations os
 unfoldable pub operationRefusal : List ℕ → ℕ → List Operation → ℕ
@@ -102,9 +111,6 @@ outputInRange symbols o =
 abbrev pub outputWidth : ℕ → List Operation → Output → ℕ
 outputWidth n os o = width sampleWidth (outputForm n os o)
 
-abbrev pub outputAt : List ℕ → ℕ → ℕ → Output
-outputAt bytes operations i = outputOf (payloadAt bytes (outputPlace operations i))
-
 -- output i of a netlist of the operations os
 unfoldable pub outputRefusal : List ℕ → ℕ → List Operation → ℕ → ℕ
 unfolding recordRefusal
@@ -120,14 +126,15 @@ outputRefusal bytes n os i =
     ]
 
 -- 11: totals differ from the head's count or the depth
-unfoldable pub totalsRefusal : List ℕ → ℕ → ℕ → List Operation → ℕ
+abbrev pub totalsRight : Head → List Operation → Totals → Bool
+totalsRight h os t = eqb (t .operations) (h .operations) && eqb (t .depth) (depth (h .n) os)
+
+unfoldable pub totalsRefusal : List ℕ → ℕ → Head → List Operation → ℕ
 unfolding recordRefusal
-totalsRefusal bytes place n os =
+totalsRefusal bytes place h os =
     elim (recordRefusal bytes place 5 8) [
       | suc r ↦ suc r
-      | zero ↦
-          let t = totalsOf (payloadAt bytes place) in
-          elim (eqb (t .operations) (length os) && eqb (t .depth) (depth n os)) [ true ↦ 0 | false ↦ 11 ]
+      | zero ↦ elim (totalsRight h os (totalsAt bytes place)) [ true ↦ 0 | false ↦ 11 ]
     ]
 
 -- ---- the whole netlist
@@ -137,59 +144,48 @@ pub data Reading (A : Type 0) : Type 0 where
   refused : ℕ → ℕ → Reading A
   accepted : A → Reading A
 
--- so many operations more, behind the operations os
-unfoldable pub readOperations : List ℕ → ℕ → ℕ → List Operation → Reading (List Operation)
-unfolding operationRefusal
-readOperations bytes n zero os = accepted os
-readOperations bytes n (suc k) os =
-    elim (operationRefusal bytes n os) [
-      | suc r ↦ refused (suc r) (operationPlace (length os))
-      | zero ↦ readOperations bytes n k (os ++ (operationAt bytes (length os) ∷ []))
-    ]
+-- what follows a record that is accepted
+abbrev pub andThen : {A B : Type 0} → Reading A → (A → Reading B) → Reading B
+andThen (refused r place) rest = refused r place
+andThen (accepted x) rest = rest x
 
--- so many outputs more, behind the outputs given
-unfoldable pub readOutputs : List ℕ → ℕ → List Operation → ℕ → List Output → Reading (List Output)
-unfolding outputRefusal
-readOutputs bytes n os zero outputs = accepted outputs
-readOutputs bytes n os (suc k) outputs =
-    elim (outputRefusal bytes n os (length outputs)) [
-      | suc r ↦ refused (suc r) (outputPlace (length os) (length outputs))
-      | zero ↦ readOutputs bytes n os k (outputs ++ (outputAt bytes (length os) (length outputs) ∷ []))
-    ]
+-- a record's refusal at its place, or its fields
+abbrev pub readRecord : {A : Type 0} → ℕ → ℕ → A → Reading A
+readRecord zero place x = accepted x
+readRecord (suc r) place x = refused (suc r) place
 
--- the totals at a place, and 12, place after totals: bytes left over
-unfoldable pub readTotals : List ℕ → ℕ → ℕ → List Operation → Reading Totals
-unfolding totalsRefusal
-readTotals bytes place n os =
-    elim (totalsRefusal bytes place n os) [
-      | suc r ↦ refused (suc r) place
-      | zero ↦
-          elim (ltb (place + 8) (length bytes)) [
-            | true ↦ refused 12 (place + 8)
-            | false ↦ accepted (totalsOf (payloadAt bytes place))
-          ]
-    ]
+-- so many records of one kind more, behind those read; the first of them is refused, or is read and the next is due
+unfoldable pub readRecords : {A : Type 0} → (List A → ℕ) → (ℕ → ℕ) → (ℕ → A) → ℕ → List A → Reading (List A)
+readRecords refusal place fields zero xs = accepted xs
+readRecords refusal place fields (suc k) xs =
+    andThen (readRecord (refusal xs) (place (length xs)) (fields (length xs))) (λ x. readRecords refusal place fields k (xs ++ (x ∷ [])))
+
+abbrev pub readHead : List ℕ → Reading Head
+readHead bytes = readRecord (headRefusal bytes) 0 (headAt bytes)
+
+abbrev pub readOperations : List ℕ → Head → Reading (List Operation)
+readOperations bytes h = readRecords (operationRefusal bytes (h .n)) operationPlace (operationAt bytes) (h .operations) []
+
+abbrev pub readOutputs : List ℕ → Head → List Operation → Reading (List Output)
+readOutputs bytes h os =
+    readRecords (λ outputs. outputRefusal bytes (h .n) os (length outputs)) (outputPlace (length os)) (outputAt bytes (length os)) (h .m) []
+
+abbrev pub readTotals : List ℕ → ℕ → Head → List Operation → Reading Totals
+readTotals bytes place h os = readRecord (totalsRefusal bytes place h os) place (totalsAt bytes place)
+
+-- 12, place after totals: bytes left over
+abbrev pub leftoverRefusal : List ℕ → ℕ → ℕ
+leftoverRefusal bytes place = elim (ltb place (length bytes)) [ true ↦ 12 | false ↦ 0 ]
 
 unfoldable pub readNetlist : List ℕ → Reading Netlist
-unfolding headRefusal readOperations readOutputs readTotals
+unfolding headRefusal readRecords operationRefusal outputRefusal totalsRefusal
 readNetlist bytes =
-    elim (headRefusal bytes) [
-      | suc r ↦ refused (suc r) 0
-      | zero ↦
-          let h = headOf (payloadAt bytes 0) in
-          elim (readOperations bytes (h .n) (h .operations) []) [
-            | refused r place ↦ refused r place
-            | accepted os ↦
-                elim (readOutputs bytes (h .n) os (h .m) []) [
-                  | refused r place ↦ refused r place
-                  | accepted outputs ↦
-                      elim (readTotals bytes (outputPlace (length os) (length outputs)) (h .n) os) [
-                        | refused r place ↦ refused r place
-                        | accepted t ↦ accepted (record { head = h; operations = os; outputs = outputs; totals = t })
-                      ]
-                ]
-          ]
-    ]
+    andThen (readHead bytes) (λ h.
+    andThen (readOperations bytes h) (λ os.
+    andThen (readOutputs bytes h os) (λ outputs.
+    let place = outputPlace (length os) (length outputs) in
+    andThen (readTotals bytes place h os) (λ t.
+    readRecord (leftoverRefusal bytes (place + 8)) (place + 8) (record { head = h; operations = os; outputs = outputs; totals = t })))))
 
 -- ---- read's answer: m, n, operations, depth; a refusal has all counts 0
 
