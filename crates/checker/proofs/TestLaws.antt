@@ -6,9 +6,10 @@ use mathlib.Core.Bool.{Bool, true, false, true≢false}
 use mathlib.Core.Logic.{_↔_, _⊎_, inl, inr, ⊎-elim}
 use mathlib.Core.List.{List, [], _∷_, _++_}
 use native.Mathlib.Omega.{arith}
-use lib.ListN.{length, length-append}
+use lib.ListN.{length}
 use Rattle.checker.specs.Read.{Reading, refused, accepted, andThen, readRecord, readRecords}
 use Rattle.checker.specs.Tests.{Test, tested, AllPass, FirstFails, firstRecords, firstTests}
+use Rattle.checker.proofs.FirstRecords.{last-or-earlier, length-first}
 
 -- ---- tests one after another
 
@@ -56,6 +57,12 @@ module _ (r p : ℕ) where
 -- the answer where all pass, or that of the first that fails
 abbrev pub Decided : {X : Type 0} → List Test → X → X → (ℕ → ℕ → X) → Type 0
 Decided ts answer passed declined = ((answer ≡ passed) × AllPass ts) ⊎ ((r : ℕ) × (p : ℕ) × (0 < r) × (answer ≡ declined r p) × FirstFails ts r p)
+
+-- an answer made of another
+pub answer-decided : {X Y : Type 0} (ts : List Test) (answer passed : X) (declined : ℕ → ℕ → X) (f : X → Y) → Decided ts answer passed declined
+    → Decided ts (f answer) (f passed) (λ r p. f (declined r p))
+answer-decided ts answer passed declined f (inl a) = inl (ap f (a .0), a .1)
+answer-decided ts answer passed declined f (inr d) = inr (d .0, d .1, d .2, ap f (d .3), d .4)
 
 -- then a declined answer is that of the first test that fails, and the other one says that all pass
 module _ {X : Type 0} (ts : List Test) (answer passed : X) (declined : ℕ → ℕ → X) (d : Decided ts answer passed declined) where
@@ -125,10 +132,19 @@ then-decided ts us first rest x y (inr f) d = inr (f .0, f .1, f .2, ap (λ m. a
 
 -- ---- records of one kind, one after another
 
-pub length-first : {A : Type 0} (fields : ℕ → A) (k : ℕ) → length (firstRecords fields k) ≡ k
-unfolding firstRecords
-length-first fields zero = refl
-length-first fields (suc k) = length-append (firstRecords fields k) (fields k ∷ []) ∙ omega (arith, length-first fields k)
+-- the tests of the first k records pass if those of each do
+pub first-all : (tests : ℕ → List Test) (k : ℕ) → ((i : ℕ) → i < k → AllPass (tests i)) → AllPass (firstTests tests k)
+unfolding firstTests
+first-all tests zero each = tt
+first-all tests (suc k) each = all-append (firstTests tests k) (tests k) (first-all tests k (λ i h. each i (omega arith))) (each k (omega arith))
+
+pub all-first : (tests : ℕ → List Test) (k : ℕ) → AllPass (firstTests tests k) → (i : ℕ) → i < k → AllPass (tests i)
+unfolding firstTests
+all-first tests zero a i h = absurd (omega arith)
+all-first tests (suc k) a i h =
+    let both = all-split (firstTests tests k) (tests k) a in
+    let earlier = all-first tests k (both .0) i in
+    ⊎-elim (λ l. earlier l) (λ e. rw e (both .1)) (last-or-earlier i k h)
 
 module _ {A : Type 0} (refusal : List A → ℕ) (place : ℕ → ℕ) (fields : ℕ → A) where
   abbrev first : ℕ → List A

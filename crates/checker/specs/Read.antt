@@ -196,6 +196,10 @@ abbrev pub readAccepted : Netlist → ReadAnswer
 readAccepted net =
     record { refusal = 0; place = 0; m = net .head .m; n = net .head .n; operations = net .head .operations; depth = net .totals .depth }
 
+abbrev pub answerOf : Reading Netlist → ReadAnswer
+answerOf (refused r place) = readRefused r place
+answerOf (accepted net) = readAccepted net
+
 unfoldable pub readAnswer : List ℕ → ReadAnswer
 unfolding readNetlist
-readAnswer bytes = elim (readNetlist bytes) [ refused r place ↦ readRefused r place | accepted net ↦ readAccepted net ]
+readAnswer bytes = answerOf (readNetlist bytes)
