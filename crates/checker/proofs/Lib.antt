@@ -4,3 +4,6 @@ pub mod TestLaws
 pub mod Conditions
 pub mod ReadTests
 pub mod ReadAccepts
+pub mod Coefficients
+pub mod CheckTests
+pub mod CheckAccepts

@@ -188,7 +188,7 @@ module _ (b : List ℕ) (all : AreBytes b) (passed : AllPass (readTests b)) wher
       ∙ ap (λ l. totalsBytes (totalsAt b (totalsPlace b)) ++ l) (drop-of-length-le b {i = totalsPlace b + 8} (t .1 .1 .1 .0))
       ∙ append-nil (totalsBytes (totalsAt b (totalsPlace b)))
 
-  all-pass-netlist : IsNetlistBytes b (netlistIn b)
+  pub all-pass-netlist : IsNetlistBytes b (netlistIn b)
   unfolding netlistBytes
   all-pass-netlist = record {
     netlist = its-netlist;

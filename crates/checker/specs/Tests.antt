@@ -16,7 +16,7 @@ use Rattle.layout.specs.Records.{Netlist}
 use Rattle.layout.specs.Step.{remaining}
 use Rattle.width.specs.Machine.{machine, operationValue, outputValue}
 use Rattle.checker.specs.Read.{headAt, operationPlace, operationAt, outputPlace, outputAt, totalsAt}
-use Rattle.checker.specs.Exact.{HeadLimits, OperationLimits, OutputLimits, WidthRight, TotalsRight, ComputesRow}
+use Rattle.checker.specs.Exact.{HeadLimits, OperationLimits, OutputLimits, WidthRight, TotalsRight, SameSize, ComputesRow}
 
 -- a test's number and place, and what holds where it passes
 pub record Test : Type 1 where
@@ -131,12 +131,7 @@ matrixTests bytes =
     ∷ tested 5 0 (length bytes ≡ 6 + 2 * rows bytes * columns bytes)
     ∷ []
 
--- 13: m or n of matrix and netlist differ
-pub record SameSize (matrixBytes : List ℕ) (h : Head) : Type 0 where
-  pub same-rows : rows matrixBytes ≡ h .m
-  pub same-columns : columns matrixBytes ≡ h .n
-
--- 14, place = row: row i's coefficients differ, that is, output i is not row i times vector for every vector of samples
+-- 13: m or n of matrix and netlist differ; 14, place = row: row i's coefficients differ, that is, output i is not row i times vector for every vector of samples
 abbrev pub rowTests : Netlist → List (List ℤ) → ℕ → List Test
 rowTests net rows i = tested 14 i (ComputesRow net rows i) ∷ []
 
