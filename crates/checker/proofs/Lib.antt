@@ -7,3 +7,4 @@ pub mod ReadAccepts
 pub mod Coefficients
 pub mod CheckTests
 pub mod CheckAccepts
+pub mod RunLaws
