@@ -1,24 +1,24 @@
 -- Check accepts if and only if the bytes are those of a netlist that computes the matrix, and 14 names the lowest row that it does not.
 -- Assumes nothing.
-use Prim.Native.Nat.{ℕ, zero, suc, _+_, _-_, _<_, _≤_}
+use Prim.Native.Nat.{ℕ, zero, suc, _+_, _-_, _<_}
 use mathlib.Core.Path.{_≡_, refl, sym, _∙_, ap, subst}
-use mathlib.Core.Logic.{_↔_, _⊎_, inl, inr, ⊎-elim}
+use mathlib.Core.Logic.{_↔_, _⊎_, inl, inr}
 use mathlib.Core.List.{List, [], _∷_, _++_, map}
 use native.Mathlib.Omega.{arith}
 use lib.IntN.{ℤ, pos}
 use lib.ListN.{length, getD, length-map}
 use lib.Seq.{ext-getD}
-use Rattle.layout.specs.Matrix.{rows, columns, matrixRefusal, matrix}
+use Rattle.layout.specs.Matrix.{matrixRefusal, matrix}
 use Rattle.layout.specs.Records.{Netlist}
 use Rattle.layout.proofs.LittleEndian.{AreBytes}
 use Rattle.layout.proofs.MatrixRows.{matrix-length}
 use Rattle.width.specs.Machine.{machine, outputValue, times}
-use Rattle.checker.specs.Read.{accepted, headAt, readNetlist}
+use Rattle.checker.specs.Read.{accepted, headAt}
 use Rattle.checker.specs.Check.{checked, checkAnswer}
 use Rattle.checker.specs.Run.{netlistOutputs}
 use Rattle.checker.specs.Exact.{IsNetlistBytes, Computes, ComputesRow, SameSize, IsNetlistOf, LowestRow}
 use Rattle.checker.specs.Tests.{Test, tested, AllPass, FirstFails, headTests, operationTests, outputTests, totalsTests, totalsPlace, operationsIn, firstTests, netlistIn, readTests, matrixTests, rowTests, checkTests}
-use Rattle.checker.proofs.TestLaws.{RefusedBy, NumbersBelow, numbers-append, numbers-first, number-below, all-append, all-split, first-all, all-first, fails-split, fails-before, fails-after, fails-not-all, fails-among}
+use Rattle.checker.proofs.TestLaws.{RefusedBy, NumbersBelow, numbers-append, numbers-first, number-below, all-append, all-split, first-all, all-first, fails-split, fails-after, fails-not-all, fails-among}
 use Rattle.checker.proofs.ReadTests.{reading-accepted, reading-netlist}
 use Rattle.checker.proofs.ReadAccepts.{all-pass-netlist, reading-of}
 use Rattle.checker.proofs.CheckTests.{getD-map, matrix-refused, check-refuses, check-passes}

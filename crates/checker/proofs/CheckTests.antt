@@ -2,8 +2,8 @@
 -- Assumes nothing.
 use Prim.Native.Nat.{ℕ, zero, suc, _+_, _*_, _<_, _≤_}
 use mathlib.Core.Path.{_≡_, refl, sym, _∙_, ap}
-use mathlib.Core.Bool.{Bool, true, false, not, cond, _&&_, _||_, true≢false}
-use mathlib.Core.Logic.{_↔_, _⊎_, inl, inr, ⊎-elim}
+use mathlib.Core.Bool.{Bool, true, false, not, _&&_, _||_, true≢false}
+use mathlib.Core.Logic.{_↔_, inl, inr}
 use mathlib.Core.List.{List, [], _∷_, _++_, map}
 use native.Mathlib.Omega.{arith}
 use lib.Dec.{ltb, eqb}
@@ -11,19 +11,17 @@ use lib.IntN.{ℤ, pos}
 use lib.ListN.{length, getD, drop, drop-of-length-le}
 use lib.Seq.{drop-cons}
 use borrow.Author.Tests.{ltb-false, le-ltb, eqb-true, eq-eqb, not-false}
-use Rattle.layout.specs.declared.Operation.{Operation}
 use Rattle.layout.specs.declared.Output.{Output}
 use Rattle.layout.specs.Bytes.{word}
 use Rattle.layout.specs.Matrix.{rows, columns, outside, matrixRefusal, matrix}
 use Rattle.layout.specs.Records.{Netlist}
 use Rattle.layout.proofs.MatrixRows.{matrix-length, matrix-row-length}
-use Rattle.width.specs.Machine.{machine, outputValue, times, outputForm}
-use Rattle.width.specs.Width.{Samples}
+use Rattle.width.specs.Machine.{machine, outputValue, outputForm}
 use Rattle.checker.specs.Read.{refused, accepted, readNetlist, outputAt}
 use Rattle.checker.specs.Check.{checked, sameRow, rowsAnswer, matchAnswer, checkAnswer}
 use Rattle.checker.specs.Run.{netlistOutputs}
 use Rattle.checker.specs.Exact.{SameSize, ComputesRow}
-use Rattle.checker.specs.Tests.{Test, tested, AllPass, FirstFails, firstTests, operationsIn, outputsIn, netlistIn, readTests, MatrixLimits, matrixTests, rowTests, checkTests}
+use Rattle.checker.specs.Tests.{Test, tested, AllPass, FirstFails, firstTests, operationsIn, netlistIn, readTests, MatrixLimits, matrixTests, rowTests, checkTests}
 use Rattle.checker.specs.declared.CheckAnswer.{CheckAnswer}
 use Rattle.checker.proofs.FirstRecords.{length-first}
 use Rattle.checker.proofs.TestLaws.{Decided, RefusedBy, one-fault, no-test, all-append, fails-after, fails-among, behind-refusal, behind-reading, behind-test, declined-first, passed-all}

@@ -4,6 +4,7 @@ pub mod TestLaws
 pub mod Conditions
 pub mod ReadTests
 pub mod ReadAccepts
+pub mod NetlistBytes
 pub mod Coefficients
 pub mod CheckTests
 pub mod CheckAccepts

@@ -1,35 +1,32 @@
 -- Read accepts bytes if and only if they are the bytes of a netlist, and then that netlist is what it reads.
 -- Assumes nothing.
-use Prim.Native.Nat.{ℕ, zero, suc, _+_, _*_, _<_, _≤_}
+use Prim.Native.Nat.{ℕ, zero, suc, _+_, _<_}
 use mathlib.Core.Path.{_≡_, refl, sym, _∙_, ap, ap₂, subst, subst₂}
 use mathlib.Core.Logic.{_↔_, inl, inr}
 use mathlib.Core.List.{List, [], _∷_, _++_, append-assoc, append-nil, flatMap}
 use native.Mathlib.Omega.{arith}
 use lib.IntN.{ℤ}
-use lib.ListN.{length, getD, take, drop, length-append, drop-of-length-le}
+use lib.ListN.{length, getD, drop, length-append, drop-of-length-le}
 use lib.Seq.{append-snoc}
 use Rattle.layout.specs.declared.Head.{Head}
 use Rattle.layout.specs.declared.Operation.{Operation}
 use Rattle.layout.specs.declared.Output.{Output}
-use Rattle.layout.specs.declared.Totals.{Totals}
 use Rattle.layout.specs.declared.step.StepNumbers.{StepNumbers}
-use Rattle.layout.specs.Bytes.{word}
 use Rattle.layout.specs.Records.{Netlist, headPayload, operationPayload, outputPayload, totalsPayload, headBytes, operationBytes, outputBytes, totalsBytes, netlistBytes}
-use Rattle.layout.specs.Step.{remaining, stepRefusal, stepNumbers, payloadAt}
+use Rattle.layout.specs.Step.{stepRefusal, stepNumbers, payloadAt}
 use Rattle.layout.proofs.LittleEndian.{AreBytes}
-use Rattle.layout.proofs.Accepted.{AcceptedStep, not-refused, accepted-step, numbers-accepted}
+use Rattle.layout.proofs.Accepted.{not-refused, accepted-step, numbers-accepted}
 use Rattle.layout.proofs.Found.{accepted as step-accepted, numbers-refusal, next-place}
 use Rattle.layout.proofs.Lengths.{operation-place, output-place, totals-place, length-netlist}
 use Rattle.layout.proofs.RecordKinds.{Kind, Found, bytesOf, found, there, head as head-kind, operation as operation-kind, output as output-kind, totals as totals-kind}
-use Rattle.width.specs.Machine.{machine, entryAt, operationValue, outputValue}
-use Rattle.width.specs.Width.{IsWidth}
+use Rattle.width.specs.Machine.{machine, entryAt, operationValue}
 use Rattle.width.proofs.MachineLaws.{machine-keeps-after, machine-last}
 use Rattle.width.proofs.WidthLaws.{width-same}
-use Rattle.checker.specs.Read.{Reading, refused, accepted, headAt, operationPlace, operationAt, outputPlace, outputAt, totalsAt, readNetlist, readAnswer, answerOf, readRefused, readAccepted}
+use Rattle.checker.specs.Read.{accepted, headAt, operationPlace, operationAt, outputPlace, outputAt, totalsAt, readNetlist, readAnswer, answerOf, readRefused, readAccepted}
 use Rattle.checker.specs.declared.ReadAnswer.{ReadAnswer}
-use Rattle.checker.specs.Exact.{HeadLimits, OperationLimits, OutputLimits, WidthRight, TotalsRight, IsOperation, IsOutput, IsNetlist, IsNetlistBytes}
-use Rattle.checker.specs.Tests.{Test, tested, AllPass, Whole, Expected, recordTests, headTests, firstRecords, firstTests, operationTests, outputTests, totalsTests, operationsIn, outputsIn, totalsPlace, netlistIn, readTests}
-use Rattle.checker.proofs.FirstRecords.{length-first, getD-first, take-first, first-split, first-before, first-is}
+use Rattle.checker.specs.Exact.{OperationLimits, WidthRight, IsOperation, IsOutput, IsNetlist, IsNetlistBytes}
+use Rattle.checker.specs.Tests.{AllPass, Whole, Expected, headTests, firstRecords, firstTests, operationTests, outputTests, totalsTests, operationsIn, outputsIn, totalsPlace, netlistIn, readTests}
+use Rattle.checker.proofs.FirstRecords.{length-first, first-split, first-before, first-is}
 use Rattle.checker.proofs.TestLaws.{Decided, all-append, all-split, first-all, all-first}
 use Rattle.checker.proofs.ReadTests.{reading-accepted, reading-netlist, read-answer-decided}
 
@@ -108,8 +105,8 @@ module _ (b : List ℕ) (all : AreBytes b) (passed : AllPass (readTests b)) wher
   abbrev os : List Operation
   os = operationsIn b
 
-  abbrev outs : List Output
-  outs = outputsIn b
+  abbrev outputs : List Output
+  outputs = outputsIn b
 
   in-parts : AllPass (headTests b) × (AllPass (firstTests (operationTests b (h .n)) (h .operations))
       × (AllPass (firstTests (outputTests b (h .n) os) (h .m)) × AllPass (totalsTests b (totalsPlace b) h os)))
@@ -137,7 +134,7 @@ module _ (b : List ℕ) (all : AreBytes b) (passed : AllPass (readTests b)) wher
             (subst₂ (λ l p. WidthRight (h .n) (λ xs. operationValue (machine xs l) p) (p .width)) (at .1) (at .2) (t .1 .1 .1 .0));
       })
 
-  its-output : (before after : List Output) (o : Output) → outs ≡ before ++ o ∷ after → IsOutput (h .n) os o
+  its-output : (before after : List Output) (o : Output) → outputs ≡ before ++ o ∷ after → IsOutput (h .n) os o
   its-output before after o e =
       let at = first-before (outputAt b (length os)) (h .m) before after o e in
       let t = output-passes (length before) (at .0) in
@@ -170,12 +167,12 @@ module _ (b : List ℕ) (all : AreBytes b) (passed : AllPass (readTests b)) wher
       end : operationPlace (h .operations) ≡ outputPlace (length os) 0
       end = omega (arith, length-first (operationAt b) (h .operations))
 
-  outputs-stand : drop (outputPlace (length os) 0) b ≡ flatMap outputBytes outs ++ drop (totalsPlace b) b
+  outputs-stand : drop (outputPlace (length os) 0) b ≡ flatMap outputBytes outputs ++ drop (totalsPlace b) b
   unfolding outputPayload
   outputs-stand =
       stretch outputBytes b (outputPlace (length os)) (outputAt b (length os)) (h .m)
       (λ i l. let t = output-passes i l in stands output-kind b (outputPlace (length os) i) all (t .0) (t .1 .0) ∙ ap (λ p. outputBytes (outputAt b (length os) i) ++ drop p b) (next i))
-      ∙ ap (λ k. flatMap outputBytes outs ++ drop (outputPlace (length os) k) b) (sym (length-first (outputAt b (length os)) (h .m)))
+      ∙ ap (λ k. flatMap outputBytes outputs ++ drop (outputPlace (length os) k) b) (sym (length-first (outputAt b (length os)) (h .m)))
     where
       next : (i : ℕ) → outputPlace (length os) i + 9 ≡ outputPlace (length os) (suc i)
       next i = omega arith
@@ -196,7 +193,7 @@ module _ (b : List ℕ) (all : AreBytes b) (passed : AllPass (readTests b)) wher
         head-stands
         ∙ ap (λ l. headBytes h ++ l) (operations-stand
         ∙ ap (λ l. flatMap operationBytes os ++ l) (outputs-stand
-        ∙ ap (λ l. flatMap outputBytes outs ++ l) totals-stand));
+        ∙ ap (λ l. flatMap outputBytes outputs ++ l) totals-stand));
   }
 
 reading-only : (b : List ℕ) → AreBytes b → (net : Netlist) → readNetlist b ≡ accepted net → IsNetlistBytes b net
@@ -207,87 +204,87 @@ reading-only b all net e =
 -- ---- the bytes of a netlist hold that netlist
 
 module _ (net : Netlist) (count : length (net .operations) ≡ net .head .operations) (one-per-row : length (net .outputs) ≡ net .head .m) where
-  abbrev c : List ℕ
-  c = netlistBytes net
+  abbrev bytes : List ℕ
+  bytes = netlistBytes net
 
   abbrev behind-head : List ℕ
   behind-head = flatMap operationBytes (net .operations) ++ (flatMap outputBytes (net .outputs) ++ totalsBytes (net .totals))
 
-  head-found : Found head-kind c 0 (net .head) behind-head
+  head-found : Found head-kind bytes 0 (net .head) behind-head
   unfolding netlistBytes headPayload
-  head-found = found head-kind c 0 (net .head) behind-head refl
+  head-found = found head-kind bytes 0 (net .head) behind-head refl
 
   operation-found : (i : ℕ) (d : Operation) → i < length (net .operations)
-      → Found operation-kind c (operationPlace i) (getD (net .operations) i d)
+      → Found operation-kind bytes (operationPlace i) (getD (net .operations) i d)
       (flatMap operationBytes (drop (suc i) (net .operations)) ++ (flatMap outputBytes (net .outputs) ++ totalsBytes (net .totals)))
   unfolding operationPayload
   operation-found i d l =
-      found operation-kind c (operationPlace i) (getD (net .operations) i d)
+      found operation-kind bytes (operationPlace i) (getD (net .operations) i d)
       (flatMap operationBytes (drop (suc i) (net .operations)) ++ (flatMap outputBytes (net .outputs) ++ totalsBytes (net .totals))) (operation-place net i d l)
 
   output-found : (i : ℕ) (d : Output) → i < length (net .outputs)
-      → Found output-kind c (outputPlace (length (net .operations)) i) (getD (net .outputs) i d) (flatMap outputBytes (drop (suc i) (net .outputs)) ++ totalsBytes (net .totals))
+      → Found output-kind bytes (outputPlace (length (net .operations)) i) (getD (net .outputs) i d) (flatMap outputBytes (drop (suc i) (net .outputs)) ++ totalsBytes (net .totals))
   unfolding outputPayload
   output-found i d l =
-      found output-kind c (outputPlace (length (net .operations)) i) (getD (net .outputs) i d) (flatMap outputBytes (drop (suc i) (net .outputs)) ++ totalsBytes (net .totals))
+      found output-kind bytes (outputPlace (length (net .operations)) i) (getD (net .outputs) i d) (flatMap outputBytes (drop (suc i) (net .outputs)) ++ totalsBytes (net .totals))
       (output-place net i d l)
 
-  totals-found : Found totals-kind c (outputPlace (length (net .operations)) (length (net .outputs))) (net .totals) []
+  totals-found : Found totals-kind bytes (outputPlace (length (net .operations)) (length (net .outputs))) (net .totals) []
   unfolding totalsPayload
   totals-found =
-      found totals-kind c (outputPlace (length (net .operations)) (length (net .outputs))) (net .totals) []
+      found totals-kind bytes (outputPlace (length (net .operations)) (length (net .outputs))) (net .totals) []
       (totals-place net ∙ sym (append-nil (totalsBytes (net .totals))))
 
-  head-back : headAt c ≡ net .head
+  head-back : headAt bytes ≡ net .head
   unfolding headPayload
   head-back = head-found .fields-read
 
-  operations-back : operationsIn c ≡ net .operations
+  operations-back : operationsIn bytes ≡ net .operations
   unfolding operationPayload
   operations-back =
-      ap (λ (h : Head). firstRecords (operationAt c) (h .operations)) head-back
-      ∙ first-is (operationAt c) (net .head .operations) (net .operations) count (λ i d l. operation-found i d (omega arith) .fields-read)
+      ap (λ (h : Head). firstRecords (operationAt bytes) (h .operations)) head-back
+      ∙ first-is (operationAt bytes) (net .head .operations) (net .operations) count (λ i d l. operation-found i d (omega arith) .fields-read)
 
-  outputs-back : outputsIn c ≡ net .outputs
+  outputs-back : outputsIn bytes ≡ net .outputs
   unfolding outputPayload
   outputs-back =
-      ap₂ (λ (k : ℕ) (h : Head). firstRecords (outputAt c k) (h .m)) (ap length operations-back) head-back
-      ∙ first-is (outputAt c (length (net .operations))) (net .head .m) (net .outputs) one-per-row (λ i d l. output-found i d (omega arith) .fields-read)
+      ap₂ (λ (k : ℕ) (h : Head). firstRecords (outputAt bytes k) (h .m)) (ap length operations-back) head-back
+      ∙ first-is (outputAt bytes (length (net .operations))) (net .head .m) (net .outputs) one-per-row (λ i d l. output-found i d (omega arith) .fields-read)
 
-  totals-place-back : totalsPlace c ≡ outputPlace (length (net .operations)) (length (net .outputs))
+  totals-place-back : totalsPlace bytes ≡ outputPlace (length (net .operations)) (length (net .outputs))
   totals-place-back = ap₂ outputPlace (ap length operations-back) (ap length outputs-back)
 
-  totals-back : totalsAt c (totalsPlace c) ≡ net .totals
+  totals-back : totalsAt bytes (totalsPlace bytes) ≡ net .totals
   unfolding totalsPayload
-  totals-back = ap (totalsAt c) totals-place-back ∙ totals-found .fields-read
+  totals-back = ap (totalsAt bytes) totals-place-back ∙ totals-found .fields-read
 
-  pub netlist-back : netlistIn c ≡ net
+  pub netlist-back : netlistIn bytes ≡ net
   netlist-back = λ i. record { head = head-back i; operations = operations-back i; outputs = outputs-back i; totals = totals-back i }
 
   -- ---- and where it is a netlist, they pass all tests
 
-  module _ (is : IsNetlist (netlistIn c)) where
+  module _ (is : IsNetlist (netlistIn bytes)) where
     abbrev n : ℕ
-    n = headAt c .n
+    n = headAt bytes .n
 
-    head-passes : AllPass (headTests c)
+    head-passes : AllPass (headTests bytes)
     unfolding headPayload
-    head-passes = let r = passes head-kind c 0 (head-found .numbers) in (r .0, (r .1, (is .head, tt)))
+    head-passes = let r = passes head-kind bytes 0 (head-found .numbers) in (r .0, (r .1, (is .head, tt)))
 
-    operation-passes-there : (i : ℕ) → i < headAt c .operations → AllPass (operationTests c n i)
+    operation-passes-there : (i : ℕ) → i < headAt bytes .operations → AllPass (operationTests bytes n i)
     unfolding operationPayload
     operation-passes-there i l =
-        let before = firstRecords (operationAt c) i in
-        let after = drop (suc i) (operationsIn c) in
-        let o = operationAt c i in
-        let split : operationsIn c ≡ before ++ o ∷ after = first-split (operationAt c) (headAt c .operations) i l in
+        let before = firstRecords (operationAt bytes) i in
+        let after = drop (suc i) (operationsIn bytes) in
+        let o = operationAt bytes i in
+        let split : operationsIn bytes ≡ before ++ o ∷ after = first-split (operationAt bytes) (headAt bytes .operations) i l in
         let it = is .operation before after o split in
-        let r = passes operation-kind c (operationPlace i) (operation-found i o (omega (arith, count, ap (λ (h : Head). h .operations) head-back)) .numbers) in (
+        let r = passes operation-kind bytes (operationPlace i) (operation-found i o (omega (arith, count, ap (λ (h : Head). h .operations) head-back)) .numbers) in (
           r .0,
           (
             r .1,
             (
-              subst (λ k. OperationLimits (n + k) o) (length-first (operationAt c) i) (it .limits),
+              subst (λ k. OperationLimits (n + k) o) (length-first (operationAt bytes) i) (it .limits),
               (
                 width-behind-earlier n before after o
                     (subst (λ l. WidthRight n (λ xs. entryAt (machine xs l) (n + length before)) (o .width)) split (it .width)),
@@ -297,34 +294,34 @@ module _ (net : Netlist) (count : length (net .operations) ≡ net .head .operat
           ),
         )
 
-    output-passes-there : (i : ℕ) → i < headAt c .m → AllPass (outputTests c n (operationsIn c) i)
+    output-passes-there : (i : ℕ) → i < headAt bytes .m → AllPass (outputTests bytes n (operationsIn bytes) i)
     unfolding outputPayload
     output-passes-there i l =
-        let fields = outputAt c (length (operationsIn c)) in
-        let split = first-split fields (headAt c .m) i l in
-        let it = is .output (firstRecords fields i) (drop (suc i) (outputsIn c)) (fields i) split in
+        let fields = outputAt bytes (length (operationsIn bytes)) in
+        let split = first-split fields (headAt bytes .m) i l in
+        let it = is .output (firstRecords fields i) (drop (suc i) (outputsIn bytes)) (fields i) split in
         let found-there = output-found i (fields i) (omega (arith, one-per-row, ap (λ (h : Head). h .m) head-back)) .numbers in
-        let r = subst (λ k. Whole c (outputPlace k i) × Expected c (outputPlace k i) 4 9) (ap length (sym operations-back))
-        (passes output-kind c (outputPlace (length (net .operations)) i) found-there) in
+        let r = subst (λ k. Whole bytes (outputPlace k i) × Expected bytes (outputPlace k i) 4 9) (ap length (sym operations-back))
+        (passes output-kind bytes (outputPlace (length (net .operations)) i) found-there) in
         (r .0, (r .1, (it .limits, (it .width, tt))))
 
-    totals-pass : AllPass (totalsTests c (totalsPlace c) (headAt c) (operationsIn c))
+    totals-pass : AllPass (totalsTests bytes (totalsPlace bytes) (headAt bytes) (operationsIn bytes))
     unfolding totalsPayload
     totals-pass =
-        let r = subst (λ p. Whole c p × Expected c p 5 8) (sym totals-place-back)
-        (passes totals-kind c (outputPlace (length (net .operations)) (length (net .outputs))) (totals-found .numbers)) in
+        let r = subst (λ p. Whole bytes p × Expected bytes p 5 8) (sym totals-place-back)
+        (passes totals-kind bytes (outputPlace (length (net .operations)) (length (net .outputs))) (totals-found .numbers)) in
         (r .0, (r .1, (is .totals, (omega (arith, length-netlist net, totals-place-back), tt))))
 
-    netlist-passes : AllPass (readTests c)
+    netlist-passes : AllPass (readTests bytes)
     unfolding readTests
     netlist-passes =
-        let os = operationsIn c in
-        let behind-outputs = firstTests (outputTests c n os) (headAt c .m) ++ totalsTests c (totalsPlace c) (headAt c) os in
-        all-append (headTests c) (firstTests (operationTests c n) (headAt c .operations) ++ behind-outputs) head-passes
-        (all-append (firstTests (operationTests c n) (headAt c .operations)) behind-outputs
-        (first-all (operationTests c n) (headAt c .operations) operation-passes-there)
-        (all-append (firstTests (outputTests c n os) (headAt c .m)) (totalsTests c (totalsPlace c) (headAt c) os)
-        (first-all (outputTests c n os) (headAt c .m) output-passes-there) totals-pass))
+        let os = operationsIn bytes in
+        let behind-outputs = firstTests (outputTests bytes n os) (headAt bytes .m) ++ totalsTests bytes (totalsPlace bytes) (headAt bytes) os in
+        all-append (headTests bytes) (firstTests (operationTests bytes n) (headAt bytes .operations) ++ behind-outputs) head-passes
+        (all-append (firstTests (operationTests bytes n) (headAt bytes .operations)) behind-outputs
+        (first-all (operationTests bytes n) (headAt bytes .operations) operation-passes-there)
+        (all-append (firstTests (outputTests bytes n os) (headAt bytes .m)) (totalsTests bytes (totalsPlace bytes) (headAt bytes) os)
+        (first-all (outputTests bytes n os) (headAt bytes .m) output-passes-there) totals-pass))
 
 pub reading-of : (b : List ℕ) (net : Netlist) → IsNetlistBytes b net → readNetlist b ≡ accepted net
 reading-of b net is =

@@ -3,7 +3,7 @@
 use Prim.Native.Nat.{ℕ, zero, suc, _+_, _<_, _≤_}
 use mathlib.Core.Path.{_≡_, refl, sym, _∙_, ap, subst}
 use mathlib.Core.Bool.{Bool, true, false, _&&_}
-use mathlib.Core.Logic.{_↔_, _⊎_, inl, inr}
+use mathlib.Core.Logic.{_↔_, inl, inr}
 use mathlib.Core.List.{List, [], _∷_, _++_}
 use native.Mathlib.Omega.{arith}
 use native.Mathlib.Decide.{decLt}
@@ -17,9 +17,9 @@ use Rattle.layout.specs.declared.Totals.{Totals}
 use Rattle.layout.specs.Bytes.{word}
 use Rattle.layout.specs.Records.{Netlist}
 use Rattle.layout.specs.Step.{remaining, stepRefusal}
-use Rattle.layout.proofs.Accepted.{AcceptedStep, no-header, overrun, below-least, not-refused}
+use Rattle.layout.proofs.Accepted.{no-header, overrun, below-least, not-refused}
 use Rattle.width.specs.Machine.{machine, operationValue, outputValue}
-use Rattle.checker.specs.Read.{Reading, refused, accepted, andThen, readRecord, readRecords, recordRefusal, headAt, headInRange, headRefusal, operationPlace, operationAt, operationInRange, operationWidth, operationRefusal, outputPlace, outputAt, outputInRange, outputWidth, outputRefusal, totalsAt, totalsRight, totalsRefusal, widthRight, leftoverRefusal, readHead, readOperations, readOutputs, readTotals, readNetlist, readRefused, readAccepted, answerOf, readAnswer}
+use Rattle.checker.specs.Read.{Reading, refused, accepted, andThen, readRecord, recordRefusal, headAt, headInRange, headRefusal, operationPlace, operationAt, operationInRange, operationWidth, operationRefusal, outputPlace, outputAt, outputInRange, outputWidth, outputRefusal, totalsAt, totalsRight, totalsRefusal, widthRight, leftoverRefusal, readHead, readOperations, readOutputs, readTotals, readNetlist, readRefused, readAccepted, answerOf, readAnswer}
 use Rattle.checker.specs.declared.ReadAnswer.{ReadAnswer}
 use Rattle.checker.specs.Exact.{HeadLimits, OperationLimits, OutputLimits, WidthRight, TotalsRight}
 use Rattle.checker.specs.Tests.{Test, tested, AllPass, FirstFails, Whole, Expected, recordTests, headTests, firstRecords, firstTests, operationTests, outputTests, totalsTests, operationsIn, outputsIn, totalsPlace, netlistIn, readTests}

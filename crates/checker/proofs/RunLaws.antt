@@ -1,11 +1,11 @@
 -- Run returns the number and the place of the first of its tests that fails and leaves the outputs as they were, or fills them with the
 -- board machine's outputs.
 -- Assumes nothing.
-use Prim.Native.Nat.{ℕ, zero, suc, _<_}
+use Prim.Native.Nat.{ℕ, _<_}
 use mathlib.Core.Path.{_≡_, refl, sym, _∙_, ap}
-use mathlib.Core.Bool.{Bool, true, false, true≢false}
-use mathlib.Core.Logic.{_↔_, _⊎_, inl, inr}
-use mathlib.Core.List.{List, [], _∷_, _++_, map}
+use mathlib.Core.Bool.{Bool, true, false}
+use mathlib.Core.Logic.{_↔_, inl}
+use mathlib.Core.List.{List, [], _∷_, map}
 use native.Mathlib.Omega.{arith}
 use lib.Dec.{eqb}
 use lib.IntN.{ℤ}
@@ -19,7 +19,7 @@ use Rattle.width.specs.Width.{Samples}
 use Rattle.checker.specs.Read.{Reading, refused, accepted, headAt, readNetlist}
 use Rattle.checker.specs.Run.{ran, countsAnswer, runAnswer, netlistOutputs, runOutputs}
 use Rattle.checker.specs.Exact.{IsNetlistBytes, IsNetlistOf}
-use Rattle.checker.specs.Tests.{Test, tested, AllPass, FirstFails, netlistIn, readTests, runTests}
+use Rattle.checker.specs.Tests.{tested, AllPass, FirstFails, netlistIn, readTests, runTests}
 use Rattle.checker.specs.declared.RunAnswer.{RunAnswer}
 use Rattle.checker.proofs.TestLaws.{Decided, behind-reading, behind-test, declined-first, passed-all, all-split}
 use Rattle.checker.proofs.Conditions.{same-says}
@@ -77,7 +77,7 @@ module _ (b : List ℕ) (samples outputs : List ℤ) where
 
     filled : eqb (length samples) (net .head .n) ≡ true → eqb (length outputs) (net .head .m) ≡ true
         → (answer ≡ ran 0 0) × (runOutputs b samples outputs ≡ netlistOutputs net samples)
-    unfolding runAnswer runOutputs
+    unfolding runAnswer runOutputs countsAnswer
     filled n m = (rw (e, runAnswer) (rw (n, countsAnswer) (rw m)), rw (e, runOutputs) (rw n (rw m)))
 
   -- where the netlist is one and the counts agree, run fills the outputs with the board machine's

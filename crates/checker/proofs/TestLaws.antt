@@ -6,7 +6,6 @@ use mathlib.Core.Bool.{Bool, true, false, cond, true≢false}
 use mathlib.Core.Logic.{_↔_, _⊎_, inl, inr, ⊎-elim}
 use mathlib.Core.List.{List, [], _∷_, _++_}
 use native.Mathlib.Omega.{arith}
-use lib.ListN.{length}
 use Rattle.checker.specs.Read.{Reading, refused, accepted, andThen, readRecord, readRecords}
 use Rattle.checker.specs.Tests.{Test, tested, AllPass, FirstFails, firstRecords, firstTests}
 use Rattle.checker.proofs.FirstRecords.{last-or-earlier, length-first}

@@ -103,7 +103,6 @@ netlistIn bytes =
     record { head = headAt bytes; operations = operationsIn bytes; outputs = outputsIn bytes; totals = totalsAt bytes (totalsPlace bytes) }
 
 unfoldable pub readTests : List ℕ → List Test
-unfolding firstTests firstRecords
 readTests bytes =
     let h = headAt bytes in
     let os = operationsIn bytes in
@@ -136,7 +135,6 @@ abbrev pub rowTests : Netlist → List (List ℤ) → ℕ → List Test
 rowTests net rows i = tested 14 i (ComputesRow net rows i) ∷ []
 
 unfoldable pub checkTests : List ℕ → List ℕ → List Test
-unfolding readTests
 checkTests matrixBytes netlistBytes =
     let net = netlistIn netlistBytes in
     matrixTests matrixBytes
@@ -147,7 +145,6 @@ checkTests matrixBytes netlistBytes =
 
 -- 15: samples are not n; 16: outputs lent are not m
 unfoldable pub runTests : List ℕ → ℕ → ℕ → List Test
-unfolding readTests
 runTests bytes samples outputs =
     let h = headAt bytes in
     readTests bytes ++ (tested 15 0 (samples ≡ h .n) ∷ tested 16 0 (outputs ≡ h .m) ∷ [])
