@@ -37,6 +37,8 @@ FirstFails [] number place = ⊥
 FirstFails (t ∷ ts) number place =
     ((t .passes → ⊥) × (number ≡ t .number) × (place ≡ t .place)) ⊎ (t .passes × FirstFails ts number place)
 
+-- Below, a comment says in document 01's words when the test fails, and the statement what holds where it passes.
+
 -- ---- read: 7 to 12 record by record
 
 -- 7: under 4 bytes remain, or the length exceeds what remains
@@ -82,7 +84,7 @@ outputTests bytes n os i =
     recordTests bytes place 4 9
     ++ (tested 9 place (OutputLimits (n + length os) o) ∷ tested 10 place (WidthRight n (λ xs. outputValue (machine xs os) o) (o .width)) ∷ [])
 
--- 12, place after totals: bytes left over
+-- 11: totals differ from the head's count or the depth; 12, place after totals: bytes left over
 abbrev pub totalsTests : List ℕ → ℕ → Head → List Operation → List Test
 totalsTests bytes place h os =
     recordTests bytes place 5 8
@@ -130,10 +132,11 @@ matrixTests bytes =
     ∷ tested 5 0 (length bytes ≡ 6 + 2 * rows bytes * columns bytes)
     ∷ []
 
--- 13: m or n of matrix and netlist differ; 14, place = row: row i's coefficients differ, that is, output i is not row i times vector for every vector of samples
+-- 14, place = row: its coefficients differ, that is, output i is not row i times vector for every vector of samples
 abbrev pub rowTests : Netlist → List (List ℤ) → ℕ → List Test
 rowTests net rows i = tested 14 i (ComputesRow net rows i) ∷ []
 
+-- 13: m or n of matrix and netlist differ
 unfoldable pub checkTests : List ℕ → List ℕ → List Test
 checkTests matrixBytes netlistBytes =
     let net = netlistIn netlistBytes in
