@@ -15,7 +15,7 @@ word-at-requires c κs = search needs
 
 returns : tie.Need-returns
 unfolding headOf
-returns c = cc
+returns c = rw (c .word-at .ensures)
 
 pub read-head-spec : {M : Type 1} → statement M
 read-head-spec =

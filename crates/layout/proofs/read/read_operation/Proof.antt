@@ -24,7 +24,7 @@ shared-slice-read-t11 c = search needs
 
 returns : tie.Need-returns
 unfolding operationOf
-returns c = cc
+returns c = rw (c .before .before .before .before .word-at .ensures, c .before .before .word-at2 .ensures)
 
 pub read-operation-spec : {M : Type 1} → statement M
 read-operation-spec =

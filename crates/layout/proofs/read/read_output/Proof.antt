@@ -18,7 +18,7 @@ shared-slice-read-t8 c = search needs
 
 returns : tie.Need-returns
 unfolding outputOf
-returns c = cc
+returns c = rw (c .before .before .word-at .ensures)
 
 pub read-output-spec : {M : Type 1} → statement M
 read-output-spec =

@@ -12,7 +12,7 @@ word-at-requires-2 c κs = search needs
 
 returns : tie.Need-returns
 unfolding totalsOf
-returns c = cc
+returns c = rw (c .before .word-at .ensures, c .word-at2 .ensures)
 
 pub read-totals-spec : {M : Type 1} → statement M
 read-totals-spec = tie.close (tie.spec word-at-requires word-at-requires-2 returns)
