@@ -1,12 +1,10 @@
 -- Depths: earlier ones are kept, each operation appends one, and the netlist's depth grows with it.
 -- Assumes nothing.
 use Prim.Native.Nat.{ℕ, zero, suc, _+_, _≤_, _<_, max}
-use mathlib.Core.Path.{_≡_, refl, sym, ap, _∙_}
+use mathlib.Core.Path.{_≡_, refl, ap, _∙_}
 use mathlib.Core.List.{List, [], _∷_, _++_}
 use native.Mathlib.Omega.{arith}
-use native.Mathlib.Decide.{decLt}
-use lib.ListN.{length, getD, replicate, length-append, length-replicate, List·getD-append, List·getD-eq-default}
-use lib.Seq.{getD-at}
+use lib.ListN.{length, getD, replicate, length-append, List·getD-append}
 use Rattle.layout.specs.declared.Operation.{Operation}
 use Rattle.width.specs.Machine.{operationDepth, depths, largest, depth}
 

@@ -1,19 +1,19 @@
 -- Linear forms: every entry and every output is row times vector, its coefficients being its values on the unit vectors.
 -- Assumes nothing.
-use Prim.Native.Nat.{ℕ, zero, suc, _+_, _^_, _≤_, _<_}
+use Prim.Native.Nat.{ℕ, zero, suc, _+_, _^_, _<_}
 use mathlib.Core.Path.{_≡_, refl, sym, ap, ap₂, _∙_}
 use mathlib.Core.List.{List, [], _∷_, _++_, map}
 use native.Mathlib.Omega.{arith}
 use native.Mathlib.Decide.{decLt}
-use lib.IntN.{ℤ, pos, negℤ, _+ℤ_, _-ℤ_, _*ℤ_}
-use lib.ListN.{length, getD, replicate, length-replicate, length-append, List·getD-append, List·getD-eq-default, length-map}
-use lib.Seq.{getD-at, ext-getD}
+use lib.IntN.{ℤ, pos, negℤ, _+ℤ_, _*ℤ_}
+use lib.ListN.{length, getD, replicate, length-replicate, length-append, List·getD-append, List·getD-eq-default}
+use lib.Seq.{getD-at}
 use Rattle.layout.specs.declared.Operation.{Operation}
 use Rattle.layout.specs.declared.Output.{Output}
-use Rattle.integers.proofs.Expression.{at, nat, minus, _⊕_, _⊝_, _⊗_, equal}
+use Rattle.integers.proofs.Expression.{at, nat, minus, _⊕_, _⊗_, equal}
 use Rattle.width.specs.Machine.{entryAt, shifted, joined, operationValue, machine, signed, outputValue, times, unit, unitsFrom, units, entryForm, outputForm}
 use Rattle.width.specs.Table.{columnsFrom, columns}
-use Rattle.width.proofs.MachineLaws.{machine-append, machine-snoc, length-machine, machine-keeps-after, machine-last}
+use Rattle.width.proofs.MachineLaws.{machine-keeps-after}
 
 -- ---- unit vectors
 

@@ -4,4 +4,9 @@ pub mod FormLaws
 pub mod WidthLaws
 pub mod DepthLaws
 pub mod RangeLaws
+pub mod Parts
+pub mod Shifts
+pub mod OutputLaws
+pub mod TableLaws
+pub mod BoundLaws
 pub mod Marked

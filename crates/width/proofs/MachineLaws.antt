@@ -1,15 +1,15 @@
 -- The board machine: it keeps earlier entries, each operation appends one, and an entry is what its operation makes of its operands.
 -- Assumes nothing.
-use Prim.Native.Nat.{ℕ, zero, suc, _+_, _<_}
-use mathlib.Core.Path.{_≡_, refl, sym, ap, ap₂, _∙_, subst}
-use mathlib.Core.List.{List, [], _∷_, _++_, append-assoc}
+use Prim.Native.Nat.{ℕ, suc, _+_, _<_}
+use mathlib.Core.Path.{_≡_, refl, sym, ap, _∙_, subst}
+use mathlib.Core.List.{List, [], _∷_, _++_}
 use native.Mathlib.Omega.{arith}
 use lib.IntN.{ℤ, pos}
-use lib.ListN.{length, getD, length-append, List·getD-append, List·getD-eq-default}
+use lib.ListN.{length, length-append, List·getD-append, List·getD-eq-default}
 use lib.Seq.{getD-at, append-snoc}
 use Rattle.layout.specs.declared.Operation.{Operation}
 use Rattle.layout.specs.declared.Output.{Output}
-use Rattle.width.specs.Machine.{entryAt, shifted, joined, operationValue, machine, Earlier, signed, outputValue}
+use Rattle.width.specs.Machine.{entryAt, shifted, joined, operationValue, machine, Earlier, outputValue}
 
 -- operations one after another
 pub machine-append : (xs : List ℤ) (os ps : List Operation) → machine xs (os ++ ps) ≡ machine (machine xs os) ps

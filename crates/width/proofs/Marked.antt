@@ -1,32 +1,46 @@
 -- Document 01, "Marked banks": the widths hold.
 -- Assumes nothing.
 use mathlib.Core.Path.{_≡_, refl}
-use mathlib.Core.List.{List, [], _∷_}
-use lib.IntN.{ℤ, pos, negsuc}
-use lib.ListN.{length, replicate}
-use Rattle.width.specs.Machine.{times}
-use Rattle.width.specs.Width.{IsWidth, width}
-use Rattle.width.specs.Marked.{MarkedWidths}
-use Rattle.width.proofs.WidthLaws.{width-is}
+use mathlib.Core.List.{[], _∷_}
+use lib.IntN.{pos, negsuc}
+use lib.ListN.{replicate}
+use Rattle.width.specs.Machine.{entryForm, outputForm}
+use Rattle.width.specs.Width.{width}
+use Rattle.width.specs.Marked.{MarkedWidths, sumOfTwo, negatedSample, chainOfEight, negatedChain}
+use Rattle.width.proofs.WidthLaws.{entry-width-is, output-width-is}
 
-sum : width 16 (pos 1 ∷ pos 1 ∷ []) ≡ 17
-unfolding width
-sum = refl
+-- the coefficients
+sum-form : entryForm 2 sumOfTwo 2 ≡ (pos 1 ∷ pos 1 ∷ [])
+unfolding entryForm
+sum-form = refl
 
-negated : width 16 (negsuc 0 ∷ []) ≡ 17
-unfolding width
-negated = refl
+negated-form : outputForm 1 [] negatedSample ≡ (negsuc 0 ∷ [])
+unfolding outputForm
+negated-form = refl
 
-eight : width 16 (replicate 8 (negsuc 32767)) ≡ 35
+eight-form : outputForm 8 chainOfEight negatedChain ≡ replicate 8 (negsuc 32767)
+unfolding outputForm
+eight-form = refl
+
+-- the widths
+sum-width : width 16 (pos 1 ∷ pos 1 ∷ []) ≡ 17
 unfolding width
-eight = refl
+sum-width = refl
+
+negated-width : width 16 (negsuc 0 ∷ []) ≡ 17
+unfolding width
+negated-width = refl
+
+eight-width : width 16 (replicate 8 (negsuc 32767)) ≡ 35
+unfolding width
+eight-width = refl
 
 pub marked-widths : MarkedWidths
 marked-widths = record {
-  sum = sum;
-  negated = negated;
-  eight = eight;
-  sum-is = rw sum at (width-is 16 (pos 1 ∷ pos 1 ∷ []) 2 refl);
-  negated-is = rw negated at (width-is 16 (negsuc 0 ∷ []) 1 refl);
-  eight-is = rw eight at (width-is 16 (replicate 8 (negsuc 32767)) 8 refl);
+  sum = sum-width;
+  negated = negated-width;
+  eight = eight-width;
+  sum-is = rw (sum-form, sum-width) at (entry-width-is 16 2 sumOfTwo 2);
+  negated-is = rw (negated-form, negated-width) at (output-width-is 16 1 [] negatedSample);
+  eight-is = rw (eight-form, eight-width) at (output-width-is 16 8 chainOfEight negatedChain);
 }

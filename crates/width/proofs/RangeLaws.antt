@@ -2,20 +2,18 @@
 -- out.
 -- Assumes nothing.
 use Prim.Native.Nat.{ℕ, zero, suc, _+_, _*_, _-_, _^_, _≤_, _<_}
-use mathlib.Core.Path.{_≡_, refl, sym, ap, ap₂, _∙_}
+use mathlib.Core.Path.{_≡_, refl, sym, _∙_}
 use mathlib.Core.List.{List, [], _∷_}
 use native.Mathlib.Omega.{arith}
-use native.Mathlib.Nat.{mul-le-mul, mul-le-mul-left, mul-le-mul-right, mul-assoc}
-use lib.IntN.{ℤ, pos, negsuc, negℤ, _+ℤ_, _-ℤ_, _*ℤ_, natAbs}
+use native.Mathlib.Nat.{mul-le-mul, mul-le-mul-left, mul-le-mul-right}
+use lib.IntN.{ℤ, pos, negsuc, negℤ, natAbs}
 use lib.ListN.{length, getD}
 use lib.Pow.{pow-mono, pow-pos, pow-add}
-use Rattle.layout.specs.declared.Operation.{Operation}
-use Rattle.layout.specs.declared.Output.{Output}
-use Rattle.integers.proofs.Size.{abs-+, abs-sub, abs-*, abs-shift}
+use Rattle.integers.proofs.Size.{abs-+, abs-sub, abs-shift}
 use Rattle.width.specs.Machine.{shifted, joined, signed}
-use Rattle.width.specs.Width.{Within, positivePart, negativePart, positives, negatives, highest, lowest, width}
-use Rattle.width.specs.Table.{columnsFrom, columns, Small, Moderate}
-use Rattle.width.proofs.WidthLaws.{Range, range-of-width, width-from-one, within-size}
+use Rattle.width.specs.Width.{Within, positivePart, negativePart, positives, negatives, width}
+use Rattle.width.specs.Table.{columnsFrom, columns, Small, SmallRange}
+use Rattle.width.proofs.WidthLaws.{range-of-width, width-of-range, width-from-one, within-size}
 
 -- ---- coefficients
 
@@ -38,6 +36,21 @@ negatives-at (c ∷ cs) (suc j) = omega (arith, negatives-at cs j)
 -- a coefficient is at most the sum of all sizes
 pub coefficient-size : (cs : List ℤ) (j : ℕ) → natAbs (getD cs j (pos 0)) ≤ positives cs + negatives cs
 coefficient-size cs j = omega (arith, parts-size (getD cs j (pos 0)), positives-at cs j, negatives-at cs j)
+
+-- coefficients of at most B sum to at most B times their number
+pub sums-of-sizes : (B : ℕ) (cs : List ℤ) → ((j : ℕ) → j < length cs → natAbs (getD cs j (pos 0)) ≤ B) → positives cs + negatives cs ≤ length cs * B
+unfolding positives negatives
+sums-of-sizes B [] h = omega arith
+sums-of-sizes B (c ∷ cs) h = omega (arith, sums-of-sizes B cs (λ j l. h (suc j) (omega arith)), parts-size c, h 0 (omega arith))
+
+-- small sums make a small width
+pub width-of-sums : (s W : ℕ) (cs : List ℤ) → 1 ≤ W → 2 ^ (s - 1) * (positives cs + negatives cs) < 2 ^ (W - 1) → width s cs ≤ W
+width-of-sums s W cs l h =
+    let less : 2 ^ (s - 1) - 1 ≤ 2 ^ (s - 1) = omega arith in
+    width-of-range s cs W l (record {
+      low = omega (arith, mul-le-mul-right (negatives cs) less);
+      high = omega (arith, mul-le-mul-right (positives cs) less);
+    })
 
 -- ---- what a width at most W says, over samples of s bits
 
@@ -68,6 +81,10 @@ module _ (s W : ℕ) (cs : List ℤ) (h : width s cs ≤ W) where
           → positivePart c ≤ positives cs → negativePart c ≤ negatives cs → natAbs c ≤ 2 ^ (W - 1)
       go (pos c) P l k m a b = omega (arith, mul-le-mul-right (positives cs) l)
       go (negsuc c) P l k m a b = omega (arith, mul-le-mul-right (negatives cs) l)
+
+-- a moderate form's coefficients are small, too
+pub small-range-sums : {s : ℕ} {cs : List ℤ} → SmallRange s cs → positives cs + negatives cs < 2 ^ 62
+small-range-sums {s} {cs} h = omega (arith, h .spread, mul-le-mul-right (positives cs + negatives cs) (pow-pos (s - 1)))
 
 -- ---- one operation and one output on numbers that lie within a width
 
@@ -171,9 +188,9 @@ module _ (s W k n : ℕ) (two : 2 ≤ s) where
       let e : total (columns n (λ i. shifted (f i) sa)) ≡ total (columns n f) * 2 ^ sa = omega (arith, positives-shifted f sa 0 n, negatives-shifted f sa 0 n) in
       rw e (spread-shifted W k (2 ^ (s - 1)) (total (columns n f)) sa (width-spread s W (columns n f) h two) l)
 
-  pub operation-moderate : W + k ≤ 61 → (f g : ℕ → ℤ) (sign sa sb : ℕ) → width s (columns n f) ≤ W → width s (columns n g) ≤ W → sa ≤ k → sb ≤ k
-      → Moderate s (columns n (λ i. joined sign (shifted (f i) sa) (shifted (g i) sb)))
-  operation-moderate m f g sign sa sb hf hg la lb = record {
+  pub operation-range-small : W + k ≤ 61 → (f g : ℕ → ℤ) (sign sa sb : ℕ) → width s (columns n f) ≤ W → width s (columns n g) ≤ W → sa ≤ k → sb ≤ k
+      → SmallRange s (columns n (λ i. joined sign (shifted (f i) sa) (shifted (g i) sb)))
+  operation-range-small m f g sign sa sb hf hg la lb = record {
     spread = omega (
       arith,
       mul-le-mul-left (2 ^ (s - 1)) (total-joined sign (λ i. shifted (f i) sa) (λ i. shifted (g i) sb) 0 n),
@@ -183,9 +200,9 @@ module _ (s W k n : ℕ) (two : 2 ≤ s) where
     );
   }
 
-  pub output-moderate : W + k ≤ 62 → (f : ℕ → ℤ) (sign shift : ℕ) → width s (columns n f) ≤ W → shift ≤ k
-      → Moderate s (columns n (λ i. signed sign (shifted (f i) shift)))
-  output-moderate m f sign shift h l = record {
+  pub output-range-small : W + k ≤ 62 → (f : ℕ → ℤ) (sign shift : ℕ) → width s (columns n f) ≤ W → shift ≤ k
+      → SmallRange s (columns n (λ i. signed sign (shifted (f i) shift)))
+  output-range-small m f sign shift h l = record {
     spread = omega (
       arith,
       mul-le-mul-left (2 ^ (s - 1)) (total-signed sign (λ i. shifted (f i) shift) 0 n),

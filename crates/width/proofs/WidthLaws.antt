@@ -2,14 +2,13 @@
 -- Assumes nothing.
 use Prim.Native.Nat.{ℕ, zero, suc, pred, _+_, _*_, _-_, _^_, _≤_, _<_, max}
 use mathlib.Core.Path.{_≡_, refl, sym, ap, _∙_}
-use mathlib.Core.Bool.{Bool, true, false}
 use mathlib.Core.Logic.{⊎-elim}
 use mathlib.Core.List.{List, [], _∷_, map}
 use native.Mathlib.Omega.{arith}
-use native.Mathlib.Nat.{mul-le-mul-left, pow-succ'}
+use native.Mathlib.Nat.{mul-le-mul-left}
 use native.Mathlib.Decide.{decLt}
 use borrow.Author.Tests.{lt-ltb, le-ltb}
-use lib.IntN.{ℤ, pos, negsuc, negℤ, _+ℤ_, _-ℤ_, _*ℤ_, natAbs}
+use lib.IntN.{ℤ, pos, negsuc, negℤ, natAbs}
 use lib.ListN.{length, getD, length-map}
 use lib.Pow.{pow-mono, pow-pos}
 use lib.Signed.{_≤ℤ_}
@@ -17,7 +16,7 @@ use Rattle.layout.specs.declared.Operation.{Operation}
 use Rattle.layout.specs.declared.Output.{Output}
 use Rattle.integers.proofs.Expression.{positive, negative, one-part, at, nat, minus, _⊕_, _⊝_, _⊗_, equal, at-most, equal-parts, at-most-parts, size}
 use Rattle.width.specs.Machine.{entryAt, machine, outputValue, times, entryForm, outputForm}
-use Rattle.width.specs.Width.{Within, Samples, Holds, IsWidth, positivePart, negativePart, positives, negatives, highestOf, lowestOf, highest, lowest, bitsFrom, bits, width}
+use Rattle.width.specs.Width.{Within, Samples, Holds, IsWidth, positivePart, negativePart, positives, negatives, highest, lowest, bitsFrom, bits, width}
 use Rattle.width.proofs.FormLaws.{entry-times, output-times, length-entry-form, length-output-form}
 
 -- ---- the number of bits

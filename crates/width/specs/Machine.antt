@@ -1,6 +1,6 @@
 -- Document 01, "Netlist and board machine": the board machine, depth, and the coefficients of an entry.
 -- Assumes nothing.
-use Prim.Native.Nat.{ℕ, zero, suc, _+_, _-_, _^_, _<_, max}
+use Prim.Native.Nat.{ℕ, zero, suc, _^_, _<_, max}
 use mathlib.Core.List.{List, [], _∷_, _++_, map}
 use lib.IntN.{ℤ, pos, negℤ, _+ℤ_, _-ℤ_, _*ℤ_}
 use lib.ListN.{getD, replicate}

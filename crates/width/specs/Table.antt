@@ -1,7 +1,7 @@
 -- Document 01, "Netlist and board machine": what an operation and an output make of earlier entries, on tables that a caller lends:
 -- the coefficients of every entry, and the values or the depths of all entries by symbol.
 -- Assumes nothing.
-use Prim.Native.Nat.{ℕ, zero, suc, _+_, _*_, _-_, _^_, _<_, max}
+use Prim.Native.Nat.{ℕ, zero, suc, _+_, _*_, _-_, _^_, _<_}
 use mathlib.Core.Path.{_≡_}
 use mathlib.Core.List.{List, [], _∷_}
 use lib.IntN.{ℤ, pos, natAbs}
@@ -9,7 +9,7 @@ use lib.ListN.{length, getD, set}
 use lib.Seq.{sets}
 use Rattle.layout.specs.declared.Operation.{Operation}
 use Rattle.layout.specs.declared.Output.{Output}
-use Rattle.width.specs.Machine.{shifted, joined, signed, operationValue, operationDepth, unit, machine}
+use Rattle.width.specs.Machine.{entryAt, shifted, joined, signed, operationValue, unit, machine}
 use Rattle.width.specs.Width.{positives, negatives}
 
 -- ---- the coefficients: those of a symbol stand in its row of eight
@@ -42,19 +42,19 @@ outputRow table n o = columns n (λ j. signed (o .sign) (shifted (coefficientAt 
 abbrev pub formAppended : List ℤ → ℕ → Operation → ℕ → List ℤ
 formAppended table n o symbol = sets table (symbol * 8) (operationRow table n o)
 
--- the coefficients of k samples, from symbol i on, written into their rows
-unfoldable pub samplesFrom : ℕ → ℕ → ℕ → List ℤ → List ℤ
+-- the coefficients of k samples, from symbol i on, which are unit vectors, written into their rows
+unfoldable pub unitRowsFrom : ℕ → ℕ → ℕ → List ℤ → List ℤ
 unfolding unit
-samplesFrom n i zero table = table
-samplesFrom n i (suc k) table = samplesFrom n (suc i) k (sets table (i * 8) (unit n i))
+unitRowsFrom n i zero table = table
+unitRowsFrom n i (suc k) table = unitRowsFrom n (suc i) k (sets table (i * 8) (unit n i))
 
 abbrev pub formsStarted : List ℤ → ℕ → List ℤ
-formsStarted table n = samplesFrom n 0 n table
+formsStarted table n = unitRowsFrom n 0 n table
 
 -- the table holds the coefficients of the entries after the operations os: those of column j are the values on the unit vector of j
 pub record HoldsForms (n : ℕ) (os : List Operation) (table : List ℤ) : Type 0 where
   pub room : length table ≡ 4096
-  pub forms : (symbol j : ℕ) → symbol < n + length os → j < n → coefficientAt table symbol j ≡ getD (machine (unit n j) os) symbol (pos 0)
+  pub forms : (symbol j : ℕ) → symbol < n + length os → j < n → coefficientAt table symbol j ≡ entryAt (machine (unit n j) os) symbol
 
 -- ---- values and depths: that of a symbol stands at the symbol
 
@@ -68,6 +68,11 @@ pub record Small (z : ℤ) (s : ℕ) : Type 0 where
   pub shift : s < 64
   pub size : natAbs (shifted z s) < 2 ^ 62
 
+-- all coefficients of an operation's operands are
+pub record SmallForms (table : List ℤ) (n : ℕ) (o : Operation) : Type 0 where
+  pub first : (j : ℕ) → j < n → Small (coefficientAt table (o .a) j) (o .sa)
+  pub second : (j : ℕ) → j < n → Small (coefficientAt table (o .b) j) (o .sb)
+
 -- both ends of the range over samples of s bits are so small that nothing wraps where the width is worked out
-pub record Moderate (s : ℕ) (cs : List ℤ) : Type 0 where
+pub record SmallRange (s : ℕ) (cs : List ℤ) : Type 0 where
   pub spread : 2 ^ (s - 1) * (positives cs + negatives cs) < 2 ^ 62
