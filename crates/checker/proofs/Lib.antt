@@ -2,3 +2,6 @@
 pub mod TestLaws
 pub mod Conditions
 pub mod ReadTests
+pub mod RecordLaws
+pub mod HeldLaws
+pub mod NetlistLaws
