@@ -4,7 +4,7 @@
 use mathlib.Core.Path.{_≡_}
 use mathlib.Core.Logic.{_⊎_}
 use mathlib.Core.List.{List, [], _∷_}
-use Prim.Native.Nat.{ℕ, zero, suc, _-_, _%_, _^_}
+use Prim.Native.Nat.{ℕ, zero, suc, _+_, _-_, _%_, _^_}
 use lib.IntN.{ℤ, pos, negsuc, _+ℤ_, _*ℤ_}
 use lib.ListN.{length, getD}
 use lib.Signed.{shrZ}
@@ -20,16 +20,20 @@ pub data IsDigit : ℤ → Type 0 where
 abbrev pub digitAt : List ℤ → ℕ → ℤ
 digitAt ds i = getD ds i (pos 0)
 
+-- no two neighbours are nonzero
+abbrev pub Apart : List ℤ → Type 0
+Apart ds = (i : ℕ) → (digitAt ds i ≡ pos 0) ⊎ (digitAt ds (suc i) ≡ pos 0)
+
 -- the sum over powers of two, of digits whose lowest stands at position k
 unfoldable pub sumFrom : ℕ → List ℤ → ℤ
 sumFrom k [] = pos 0
 sumFrom k (d ∷ ds) = d *ℤ pos (2 ^ k) +ℤ sumFrom (suc k) ds
 
--- ds are the canonic signed digits of z: no two neighbours are nonzero, and the sum is z
+-- ds are the canonic signed digits of z
 pub record Canonic (positions : ℕ) (z : ℤ) (ds : List ℤ) : Type 0 where
   pub count : length ds ≡ positions
   pub digits : (i : ℕ) → IsDigit (digitAt ds i)
-  pub apart : (i : ℕ) → (digitAt ds i ≡ pos 0) ⊎ (digitAt ds (suc i) ≡ pos 0)
+  pub apart : Apart ds
   pub sum : sumFrom 0 ds ≡ z
 
 -- ---- how they are worked out, from the lowest position on
@@ -63,3 +67,26 @@ rest z = shrZ z 2 +ℤ carryOf (modFour z)
 unfoldable pub digits : ℕ → ℤ → List ℤ
 digits zero z = []
 digits (suc positions) z = digit z ∷ digits positions (rest z)
+
+-- ---- what is said of them
+
+-- how many digits are nonzero
+unfoldable pub nonzero : List ℤ → ℕ
+nonzero [] = 0
+nonzero (pos zero ∷ ds) = nonzero ds
+nonzero (pos (suc d) ∷ ds) = suc (nonzero ds)
+nonzero (negsuc d ∷ ds) = suc (nonzero ds)
+
+-- the sum of the powers of two at which a digit is nonzero, of digits whose lowest stands at position k
+unfoldable pub powersFrom : ℕ → List ℤ → ℕ
+powersFrom k [] = 0
+powersFrom k (pos zero ∷ ds) = powersFrom (suc k) ds
+powersFrom k (pos (suc d) ∷ ds) = 2 ^ k + powersFrom (suc k) ds
+powersFrom k (negsuc d ∷ ds) = 2 ^ k + powersFrom (suc k) ds
+
+-- the summands of the sum: each nonzero digit times its power of two
+unfoldable pub summandsFrom : ℕ → List ℤ → List ℤ
+summandsFrom k [] = []
+summandsFrom k (pos zero ∷ ds) = summandsFrom (suc k) ds
+summandsFrom k (pos (suc d) ∷ ds) = (pos (suc d) *ℤ pos (2 ^ k)) ∷ summandsFrom (suc k) ds
+summandsFrom k (negsuc d ∷ ds) = (negsuc d *ℤ pos (2 ^ k)) ∷ summandsFrom (suc k) ds

@@ -1,0 +1,8 @@
+-- Laws of canonic signed digits, lowest first, over any number of positions.
+pub mod Lowest
+pub mod Canonic
+pub mod Unique
+pub mod Count
+pub mod Powers
+pub mod Marked
+pub mod Bits
