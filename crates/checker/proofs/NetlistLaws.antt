@@ -16,7 +16,7 @@ use Rattle.checker.specs.Read.{Reading, refused, accepted, recordRefusal
 use Rattle.checker.specs.Exact.{HeadLimits, OperationLimits, OutputLimits}
 use Rattle.checker.specs.Tests.{firstRecords, operationsIn, outputsIn, totalsPlace, netlistIn}
 use Rattle.checker.specs.Tables.{refusalOf, NetlistRead}
-use Rattle.checker.proofs.TestLaws.{length-first}
+use Rattle.checker.proofs.FirstRecords.{length-first}
 use Rattle.checker.proofs.RecordLaws.{head-due, operation-due, output-due, none-refused}
 
 -- ---- which part is refused
