@@ -9,3 +9,6 @@ pub mod Coefficients
 pub mod CheckTests
 pub mod CheckAccepts
 pub mod RunLaws
+pub mod RecordLaws
+pub mod HeldLaws
+pub mod NetlistLaws

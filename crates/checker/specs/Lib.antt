@@ -3,3 +3,4 @@ pub mod Check
 pub mod Run
 pub mod Exact
 pub mod Tests
+pub mod Tables

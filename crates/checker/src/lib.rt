@@ -1,5 +1,7 @@
 // Document 01, "Reading, checking, running": read, check and run. Rests on layout and width alone, and sees nothing of the elimination.
 
+pub mod read; // read.rt: reading a netlist
+
 // What read returns: a refusal and its place, or m, n, operations and depth.
 pub struct ReadAnswer {
     pub refusal: u8,
@@ -18,9 +20,4 @@ pub struct CheckAnswer {
 pub struct RunAnswer {
     pub refusal: u8,
     pub place: usize,
-}
-
-// Whether a refusal is none.
-pub fn accepts(refusal: u8) -> bool {
-    refusal == 0
 }

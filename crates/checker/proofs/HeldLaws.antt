@@ -1,0 +1,149 @@
+-- The tables lent to the parts of read: what they hold at the start and after one operation more, and what the calls on them ask.
+-- Assumes nothing.
+use Prim.Native.Nat.{ℕ, zero, suc, _+_, _≤_, _<_, max}
+use mathlib.Core.Path.{_≡_, refl, sym, _∙_, ap}
+use mathlib.Core.List.{List, [], _∷_, _++_}
+use native.Mathlib.Omega.{arith}
+use native.Mathlib.Decide.{decLt}
+use lib.IntN.{ℤ}
+use lib.ListN.{length, getD, set, take, replicate, length-append, length-set, length-replicate}
+use lib.Seq.{getD-take, take-suc}
+use Rattle.layout.specs.declared.Operation.{Operation}
+use Rattle.layout.specs.declared.Output.{Output}
+use Rattle.width.specs.Machine.{entryForm, outputForm, operationDepth, depths, largest, depth}
+use Rattle.width.specs.Width.{width}
+use Rattle.width.specs.Table.{row, outputRow, formAppended, formsStarted, HoldsForms, SmallForms, SmallRange}
+use Rattle.width.proofs.FormLaws.{entry-form-keeps}
+use Rattle.width.proofs.DepthLaws.{depths-at-most, largest-snoc}
+use Rattle.width.proofs.TableLaws.{started-holds, row-is, output-row-is, appended-holds, depth-appended}
+use Rattle.width.proofs.BoundLaws.{sample-width, forms-small, appended-range-small, output-row-range-small}
+use Rattle.checker.specs.Read.{operationAt, operationWidth, outputWidth}
+use Rattle.checker.specs.Exact.{OperationLimits, OutputLimits}
+use Rattle.checker.specs.Tests.{firstRecords}
+use Rattle.checker.specs.Tables.{filled, operationsBefore, FormsHeld, DepthsHeld}
+use Rattle.checker.proofs.FirstRecords.{length-first}
+
+-- ---- tables that were just made
+
+pub length-filled : {A : Type 0} (k : ℕ) (x : A) → length (filled k x) ≡ k
+unfolding filled
+length-filled k x = length-replicate k x
+
+take-replicate : {A : Type 0} (n k : ℕ) (x : A) → n ≤ k → take n (replicate k x) ≡ replicate n x
+take-replicate zero k x l = refl
+take-replicate (suc n) zero x l = absurd (omega arith)
+take-replicate (suc n) (suc k) x l = ap (λ r. x ∷ r) (take-replicate n k x (omega arith))
+
+take-filled : {A : Type 0} (n k : ℕ) (x : A) → n ≤ k → take n (filled k x) ≡ replicate n x
+unfolding filled
+take-filled n k x l = take-replicate n k x l
+
+-- ---- no operation yet
+
+module _ (b : List ℕ) (n : ℕ) (l : n ≤ 8) where
+  pub forms-started : (forms : List ℤ) → length forms ≡ 4096 → FormsHeld b n 0 (formsStarted forms n)
+  unfolding firstRecords
+  forms-started forms r = record {
+    coefficients = started-holds n forms l r;
+    narrow = λ symbol h. omega (arith, sample-width 16 n [] symbol (omega arith) (omega arith));
+  }
+
+  pub depths-started : (table : List ℕ) → table ≡ filled 512 0 → DepthsHeld b n 0 table
+  unfolding firstRecords depths
+  depths-started table e =
+      let z : n + 0 ≡ n = omega arith in
+      record { room = ap length e ∙ length-filled 512 0; held = rw (z, e) (take-filled n 512 0 (omega arith)) }
+
+-- ---- coefficients
+
+module _ (b : List ℕ) (n k : ℕ) (forms : List ℤ) (H : FormsHeld b n k forms) where
+  abbrev before : List Operation
+  before = operationsBefore b k
+
+  count : length (operationsBefore b k) ≡ k
+  count = length-first (operationAt b) k
+
+  module _ (o : Operation) (L : OperationLimits (n + k) o) where
+    first : o .a < n + length (operationsBefore b k)
+    first = omega (arith, count, L .first-earlier)
+
+    second : o .b < n + length (operationsBefore b k)
+    second = omega (arith, count, L .second-earlier)
+
+    pub operands-small : SmallForms forms n o
+    operands-small = forms-small 16 40 15 n before forms (H .coefficients) o first second
+        (H .narrow (o .a) (L .first-earlier)) (H .narrow (o .b) (L .second-earlier)) (L .first-shift) (L .second-shift) (omega arith)
+
+    module _ (l : n ≤ 8) (m : k < 504) where
+      pub appended-coefficients : HoldsForms n (operationsBefore b k ++ (o ∷ [])) (formAppended forms n o (n + k))
+      appended-coefficients = rw count at (appended-holds n before forms (H .coefficients) o first second l (omega (arith, count)))
+
+      appended-row : row (formAppended forms n o (n + k)) n (n + k) ≡ entryForm n (operationsBefore b k ++ (o ∷ [])) (n + k)
+      appended-row = row-is n (operationsBefore b k ++ (o ∷ [])) (formAppended forms n o (n + k)) appended-coefficients (n + k)
+          (omega (arith, length-append (operationsBefore b k) (o ∷ []), count))
+
+      -- the width of the row that was appended is the operation's
+      pub appended-width : width 16 (row (formAppended forms n o (n + k)) n (n + k)) ≡ operationWidth n (operationsBefore b k) o
+      appended-width = rw count (ap (width 16) appended-row)
+
+      pub appended-range : SmallRange 16 (row (formAppended forms n o (n + k)) n (n + k))
+      appended-range = rw appended-row (rw count at (appended-range-small 16 40 15 n before forms (H .coefficients) (omega arith) o first second
+          (H .narrow (o .a) (L .first-earlier)) (H .narrow (o .b) (L .second-earlier)) (L .first-shift) (L .second-shift) (omega arith)))
+
+  module _ (L : OperationLimits (n + k) (operationAt b k)) (l : n ≤ 8) (m : k < 504) where
+    pub forms-appended : operationWidth n (operationsBefore b k) (operationAt b k) ≤ 40 → FormsHeld b n (suc k) (formAppended forms n (operationAt b k) (n + k))
+    unfolding firstRecords
+    forms-appended w = record {
+      coefficients = appended-coefficients (operationAt b k) L l m;
+      narrow = λ symbol h. go symbol h (decLt symbol (n + k));
+    }
+      where
+        go : (symbol : ℕ) → symbol < n + suc k → Dec (symbol < n + k) → width 16 (entryForm n (operationsBefore b k ++ (operationAt b k ∷ [])) symbol) ≤ 40
+        go symbol h (yes e) =
+            rw (entry-form-keeps n (operationsBefore b k) (operationAt b k ∷ []) symbol (omega (arith, count, e))) (H .narrow symbol e)
+        go symbol h (no e) = let last : symbol ≡ n + k = omega arith in rw last (rw count at w)
+
+  -- an output's coefficients
+  module _ (o : Output) (L : OutputLimits (n + k) o) where
+    pub output-row-held : outputRow forms n o ≡ outputForm n (operationsBefore b k) o
+    output-row-held = output-row-is n before forms (H .coefficients) o (omega (arith, count, L .symbol))
+
+    pub output-row-width : width 16 (outputRow forms n o) ≡ outputWidth n (operationsBefore b k) o
+    output-row-width = ap (width 16) output-row-held
+
+    pub output-range : SmallRange 16 (outputRow forms n o)
+    output-range = output-row-range-small 16 40 15 n before forms (H .coefficients) (omega arith) o (omega (arith, count, L .symbol))
+        (H .narrow (o .symbol) (L .symbol)) (L .shift) (omega arith)
+
+-- ---- depths
+
+module _ (b : List ℕ) (n k : ℕ) (table : List ℕ) (D : DepthsHeld b n k table) where
+  depth-small : (symbol : ℕ) → symbol < n + k → getD table symbol 0 ≤ k
+  depth-small symbol h =
+      let e : getD table symbol 0 ≡ getD (depths (replicate n 0) (operationsBefore b k)) symbol 0 = sym (getD-take (n + k) table symbol 0 h) ∙ ap (λ v. getD v symbol 0) (D .held) in
+      omega (arith, e, depths-at-most n (operationsBefore b k) symbol, length-first (operationAt b) k)
+
+  pub depth-asked : (o : Operation) → OperationLimits (n + k) o → k < 504 → (getD table (o .a) 0 < 65535) × (getD table (o .b) 0 < 65535)
+  depth-asked o L m = (omega (arith, depth-small (o .a) (L .first-earlier)), omega (arith, depth-small (o .b) (L .second-earlier)))
+
+  pub depths-appended : OperationLimits (n + k) (operationAt b k) → n ≤ 8 → k < 504
+      → DepthsHeld b n (suc k) (set table (n + k) (operationDepth table (operationAt b k)))
+  unfolding firstRecords
+  depths-appended L l m =
+      let o = operationAt b k in
+      let e : n + suc k ≡ suc (n + k) = omega arith in record {
+        room = length-set table (n + k) (operationDepth table o) ∙ D .room;
+        held = rw e (depth-appended (replicate n 0) (operationsBefore b k) o table (n + k) (D .held) (omega (arith, D .room)) (L .first-earlier) (L .second-earlier));
+      }
+
+  -- the largest of them is the netlist's
+  pub depth-held : largest (take (n + k) table) ≡ depth n (operationsBefore b k)
+  unfolding depth
+  depth-held = ap largest (D .held)
+
+pub largest-none : (l : List ℕ) → 0 ≡ largest (take 0 l)
+unfolding largest
+largest-none l = refl
+
+pub largest-next : (l : List ℕ) (i : ℕ) → i < length l → max (largest (take i l)) (getD l i 0) ≡ largest (take (suc i) l)
+largest-next l i h = sym (ap largest (take-suc l i 0 h) ∙ largest-snoc (take i l) (getD l i 0))

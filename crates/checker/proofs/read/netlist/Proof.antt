@@ -1,0 +1,115 @@
+-- `checker::read::netlist` meets its contract. Assumes nothing.
+use mathlib.Core.Path.{_≡_, sym, ap, _∙_, subst}
+use Prim.Native.Nat.{ℕ, _+_, _*_}
+use mathlib.Core.List.{List}
+use Rattle.layout.specs.declared.Head.{Head}
+use Rattle.layout.specs.declared.Totals.{Totals}
+use Rattle.layout.specs.Records.{totalsOf}
+use Rattle.layout.specs.Step.{payloadAt}
+use Rattle.checker.specs.declared.ReadAnswer.{ReadAnswer}
+use Rattle.checker.specs.Read.{recordRefusal, headAt, headRefusal, readNetlist, totalsAt}
+use Rattle.checker.specs.Tests.{operationsIn, totalsPlace, netlistIn}
+use Rattle.checker.specs.Tables.{NetlistHeld}
+use Rattle.checker.proofs.RecordLaws.{head-due, stop-answer, totals-due}
+use Rattle.checker.proofs.NetlistLaws.{head-declines, answer-refused, answer-accepted, answer-fields, place-is}
+use borrow.Author.Needs.{needs}
+use Rattle.checker.proofs.read.netlist.Statement.{statement}
+use Rattle.checker.proofs.read.netlist.Tie as tie
+
+head-refusal-requires : tie.Need-head-refusal-requires
+head-refusal-requires c κs = search needs
+
+refused-requires : tie.Need-refused-requires
+refused-requires c κs = search needs
+
+returns : tie.Need-returns
+returns c = let r = c .before .before .head-refusal .result in let e = c .before .before .head-refusal .ensures in let b = c .before .before .before .before .args .bytes .now in let t = c .before .if1 .taken in (
+  c .refused .ensures ∙ answer-refused b (record { refusal = r; place = 0 }) (stop-answer (readNetlist b) r (headRefusal b) 0 e (head-declines b (λ z. t (e ∙ z)))) t,
+  λ z. absurd (t (sym (ap (λ (a : ReadAnswer). a .refusal) (c .refused .ensures)) ∙ z)),
+)
+
+due : (c : tie.Else1) → headRefusal (c .before .before .before .args .bytes .now) ≡ 0
+due c = sym (c .before .head-refusal .ensures) ∙ c .if1 .left
+
+head-at-requires : tie.Need-head-at-requires
+head-at-requires c κs = head-due (c .before .before .before .args .bytes .now) (due c) .0
+
+records-requires : tie.Need-records-requires
+records-requires c κs = search needs
+
+refused-requires-2 : tie.Need-refused-requires-2
+refused-requires-2 c κs = search needs
+
+returns-2 : tie.Need-returns-2
+returns-2 c = let r = c .before .before .before .records in let t = c .before .if2 .taken in (
+  c .refused2 .ensures ∙ answer-refused _ (r .result) (r .ensures .answer) t,
+  λ z. absurd (t (sym (ap (λ (a : ReadAnswer). a .refusal) (c .refused2 .ensures)) ∙ z)),
+)
+
+cast-place : tie.Need-cast-place
+cast-place c = search needs
+
+mul-place : tie.Need-mul-place
+mul-place c = search needs
+
+add-place : tie.Need-add-place
+add-place c = search needs
+
+cast-place-2 : tie.Need-cast-place-2
+cast-place-2 c = search needs
+
+mul-place-2 : tie.Need-mul-place-2
+mul-place-2 c = search needs
+
+add-place-2 : tie.Need-add-place-2
+add-place-2 c = search needs
+
+module _ (c : tie.Else2) where
+  abbrev r : tie.After-records
+  r = c .before .before
+
+  abbrev a : tie.After-head-at
+  a = r .before .before .before
+
+  abbrev b : List ℕ
+  b = a .before .before .before .before .args .bytes .now
+
+  held : NetlistHeld b (r .records .last .1 .1 .0)
+  held = r .records .ensures .held (c .if2 .left)
+
+  abbrev head : Head
+  head = a .head-at .result
+
+  there : 8 + 12 * head .operations + 9 * head .m ≡ totalsPlace b
+  there = place-is b head (a .head-at .ensures)
+
+totals-at-requires : tie.Need-totals-at-requires
+totals-at-requires c κs = let x = c .before .before in
+    subst (λ (p : ℕ). recordRefusal (b x) p 5 8 ≡ 0) (sym (there x)) (totals-due (b x) (totalsPlace (b x)) (headAt (b x)) (operationsIn (b x)) (held x .read .totals-due))
+
+returns-3 : tie.Need-returns-3
+returns-3 c = let x = c .before .before .before in (
+  answer-fields (b x) (head x) (c .totals-at .result) (a x .head-at .ensures) (c .totals-at .ensures ∙ ap (λ (p : ℕ). totalsOf (payloadAt (b x) p)) (there x))
+      ∙ answer-accepted (b x) (netlistIn (b x)) (held x .read .netlist-read),
+  λ z. held x,
+)
+
+pub netlist-spec : {M : Type 1} → statement M
+netlist-spec =
+    tie.close
+    (tie.spec
+    head-refusal-requires
+    refused-requires
+    returns
+    head-at-requires
+    records-requires
+    refused-requires-2
+    returns-2
+    cast-place
+    mul-place
+    add-place
+    cast-place-2
+    mul-place-2
+    add-place-2
+    totals-at-requires
+    returns-3)

@@ -1,0 +1,145 @@
+-- `checker::read::output_refusal` meets its contract. Assumes nothing.
+use mathlib.Core.Path.{_≡_, sym, ap, ap₂, _∙_, subst}
+use Prim.Native.Nat.{ℕ, _+_, _≤_, _<_}
+use mathlib.Core.Bool.{true}
+use mathlib.Core.List.{List}
+use native.Mathlib.Omega.{arith}
+use lib.ListN.{length}
+use borrow.Author.Tests.{not-true, not-false}
+use Rattle.layout.specs.declared.Operation.{Operation}
+use Rattle.layout.specs.declared.Output.{Output}
+use Rattle.width.specs.Width.{width}
+use Rattle.width.specs.Table.{outputRow}
+use Rattle.checker.specs.Read.{recordRefusal, operationAt, outputPlace, outputAt, outputInRange, outputWidth, widthRight}
+use Rattle.checker.specs.Exact.{OutputLimits}
+use Rattle.checker.specs.Tables.{operationsBefore, FormsHeld}
+use Rattle.checker.proofs.FirstRecords.{length-first}
+use Rattle.checker.proofs.Conditions.{output-says}
+use Rattle.checker.proofs.RecordLaws.{output-stops, output-outside, output-wide, output-accepted}
+use Rattle.checker.proofs.HeldLaws.{output-row-width, output-range}
+use borrow.Author.Needs.{needs}
+use Rattle.checker.proofs.read.output_refusal.Statement.{statement}
+use Rattle.checker.proofs.read.output_refusal.Tie as tie
+
+mul-place : tie.Need-mul-place
+mul-place c = search needs
+
+add-place : tie.Need-add-place
+add-place c = search needs
+
+mul-place-2 : tie.Need-mul-place-2
+mul-place-2 c = search needs
+
+add-place-2 : tie.Need-add-place-2
+add-place-2 c = search needs
+
+record-refusal-requires : tie.Need-record-refusal-requires
+record-refusal-requires c κs = search needs
+
+module _ (s : tie.Start) where
+  abbrev b : List ℕ
+  b = s .args .bytes .now
+
+  abbrev n : ℕ
+  n = s .args .n
+
+  abbrev k : ℕ
+  k = s .args .operations
+
+  abbrev i : ℕ
+  i = s .args .i
+
+  abbrev os : List Operation
+  os = operationsBefore b k
+
+  counted : length (operationsBefore b k) ≡ k
+  counted = length-first (operationAt b) k
+
+returns : tie.Need-returns
+returns c = let e = c .before .record-refusal .ensures in let s = c .before .before .before in e ∙ output-stops (b s) (n s) (k s) (os s) (counted s) (i s) (λ z. c .if1 .taken (e ∙ z))
+
+output-at-requires : tie.Need-output-at-requires
+output-at-requires c κs = search needs
+
+add-output-in-range : tie.Need-add-output-in-range
+add-output-in-range c = search needs
+
+output-in-range-requires : tie.Need-output-in-range-requires
+output-in-range-requires c κs = search needs
+
+-- the output's record is there
+module _ (c : tie.After-output-in-range) where
+  abbrev s : tie.Start
+  s = c .before .before .before .before .before
+
+  abbrev o : Output
+  o = outputAt (b s) (k s) (i s)
+
+  due : recordRefusal (b s) (outputPlace (k s) (i s)) 4 9 ≡ 0
+  due = sym (c .before .before .before .record-refusal .ensures) ∙ c .before .before .if1 .left
+
+  read : c .before .output-at .result ≡ outputAt (b s) (k s) (i s)
+  read = c .before .output-at .ensures
+
+  tested : outputInRange (n s + k s) (outputAt (b s) (k s) (i s)) ≡ c .output-in-range .result
+  tested = sym (c .output-in-range .ensures ∙ ap (outputInRange (n s + k s)) read)
+
+returns-2 : tie.Need-returns-2
+returns-2 c = let d = c .before in output-outside (b (s d)) (n (s d)) (k (s d)) (os (s d)) (counted (s d)) (i (s d)) (due d) (tested d ∙ not-true _ (c .if2 .taken))
+
+-- its fields are in range
+module _ (c : tie.Else2) where
+  abbrev d : tie.After-output-in-range
+  d = c .before
+
+  inside : outputInRange (n (s d) + k (s d)) (o d) ≡ true
+  inside = tested d ∙ not-false _ (c .if2 .left)
+
+  limits : OutputLimits (n (s d) + k (s d)) (o d)
+  limits = output-says (n (s d) + k (s d)) (o d) .0 inside
+
+output-width-requires : tie.Need-output-width-requires
+output-width-requires c κs = let S = s (d c) in let L = limits c in
+    rw (read (d c)) ((omega (arith, L .symbol, S .pre .0), (omega (arith, L .shift), S .pre .0 .0)), ((omega arith, omega arith), output-range (b S) (n S) (k S) (S .args .forms .now) (S .pre .1) (o (d c)) L))
+
+width-right-requires : tie.Need-width-right-requires
+width-right-requires c κs = search needs
+
+module _ (c : tie.After-width-right) where
+  abbrev e : tie.Else2
+  e = c .before .before
+
+  abbrev S : tie.Start
+  S = s (d e)
+
+  wide : c .before .output-width .result ≡ outputWidth (n S) (os S) (o (d e))
+  wide = c .before .output-width .ensures ∙ ap (λ (x : Output). width 16 (outputRow (S .args .forms .now) (n S) x)) (read (d e))
+      ∙ output-row-width (b S) (n S) (k S) (S .args .forms .now) (S .pre .1) (o (d e)) (limits e)
+
+  compared : widthRight (o (d e) .width) (outputWidth (n S) (os S) (o (d e))) ≡ c .width-right .result
+  compared = sym (c .width-right .ensures ∙ ap₂ widthRight (ap (λ (x : Output). x .width) (read (d e))) wide)
+
+returns-3 : tie.Need-returns-3
+returns-3 c = let w = c .before in let x = e w in output-wide (b (S w)) (n (S w)) (k (S w)) (os (S w)) (counted (S w)) (i (S w)) (due (d x)) (inside x) (compared w ∙ not-true _ (c .if3 .taken))
+
+returns-4 : tie.Need-returns-4
+returns-4 c = let w = c .before in let x = e w in output-accepted (b (S w)) (n (S w)) (k (S w)) (os (S w)) (counted (S w)) (i (S w)) (due (d x)) (inside x) (compared w ∙ not-false _ (c .if3 .left))
+
+pub output-refusal-spec : {M : Type 1} → statement M
+output-refusal-spec =
+    tie.close
+    (tie.spec
+    mul-place
+    add-place
+    mul-place-2
+    add-place-2
+    record-refusal-requires
+    returns
+    output-at-requires
+    add-output-in-range
+    output-in-range-requires
+    returns-2
+    output-width-requires
+    width-right-requires
+    returns-3
+    returns-4)

@@ -1,0 +1,421 @@
+// Document 01, "Reading, checking, running" and "Why a record was declined": reading a netlist, refusals 7 to 12 record by record.
+use super::ReadAnswer;
+use layout::Head;
+use layout::Operation;
+use layout::Output;
+use layout::Totals;
+ghost use mathlib.Core.Path.{_≡_};
+ghost use Prim.Native.Nat.{_+_, _*_, _≤_, _<_, max};
+ghost use lib.IntN.{pos};
+ghost use lib.ListN.{length, take};
+ghost use Rattle.width.specs.Machine.{largest};
+ghost use Rattle.checker.specs.Read.{recordRefusal, headInRange, headRefusal, headAt, operationInRange, operationRefusal, outputInRange, outputRefusal, totalsRefusal, widthRight, readAnswer};
+ghost use Rattle.layout.specs.Step.{payloadAt};
+ghost use Rattle.layout.specs.Records.{operationOf, outputOf, totalsOf};
+ghost use Rattle.checker.specs.Tables.{filled, operationsBefore, FormsHeld, DepthsHeld, OperationRead, OperationsRead, OutputsRead, HeadRead, NetlistHeld, RecordsRead};
+
+// A refusal and its place; 0 at place 0 is none.
+pub struct Refusal {
+    pub refusal: u8,
+    pub place: usize,
+}
+
+// ---- one record
+
+// The record due at a place: 7, or 8 where its kind or length is not the expected one, else 0.
+pub fn record_refusal(bytes: &[u8], place: usize, kind: u16, size: usize) -> u8
+    ensures { λ r. ⌜ r ≡ recordRefusal (now (bytes .entry)) place kind size ⌝ }
+{
+    let step = layout::step::step_numbers(bytes, place);
+    if step.refusal != 0 {
+        return step.refusal;
+    }
+    if step.kind != kind {
+        return 8;
+    }
+    if step.next - place != size {
+        return 8;
+    }
+    0
+}
+
+pub fn head_at(bytes: &[u8]) -> Head
+    requires { ⌜ recordRefusal (now bytes) 0 2 8 ≡ 0 ⌝ }
+    ensures { λ r. ⌜ r ≡ headAt (now (bytes .entry)) ⌝ }
+{
+    let payload = layout::step::payload(bytes, 0);
+    layout::read::read_head(payload)
+}
+
+pub fn operation_at(bytes: &[u8], place: usize) -> Operation
+    requires { ⌜ recordRefusal (now bytes) place 3 12 ≡ 0 ⌝ }
+    ensures { λ r. ⌜ r ≡ operationOf (payloadAt (now (bytes .entry)) place) ⌝ }
+{
+    let payload = layout::step::payload(bytes, place);
+    layout::read::read_operation(payload)
+}
+
+pub fn output_at(bytes: &[u8], place: usize) -> Output
+    requires { ⌜ recordRefusal (now bytes) place 4 9 ≡ 0 ⌝ }
+    ensures { λ r. ⌜ r ≡ outputOf (payloadAt (now (bytes .entry)) place) ⌝ }
+{
+    let payload = layout::step::payload(bytes, place);
+    layout::read::read_output(payload)
+}
+
+pub fn totals_at(bytes: &[u8], place: usize) -> Totals
+    requires { ⌜ recordRefusal (now bytes) place 5 8 ≡ 0 ⌝ }
+    ensures { λ r. ⌜ r ≡ totalsOf (payloadAt (now (bytes .entry)) place) ⌝ }
+{
+    let payload = layout::step::payload(bytes, place);
+    layout::read::read_totals(payload)
+}
+
+// ---- fields in range, and widths
+
+fn head_in_range(h: Head) -> bool
+    ensures { λ r. ⌜ r ≡ headInRange h ⌝ }
+{
+    if h.m < 1 {
+        return false;
+    }
+    if h.m > 8 {
+        return false;
+    }
+    if h.n < 1 {
+        return false;
+    }
+    if h.n > 8 {
+        return false;
+    }
+    if h.operations > 504 {
+        return false;
+    }
+    true
+}
+
+// The operation's operands stand below its symbol.
+fn operation_in_range(o: Operation, symbol: usize) -> bool
+    ensures { λ r. ⌜ r ≡ operationInRange symbol o ⌝ }
+{
+    if o.sign > 1 {
+        return false;
+    }
+    if o.sa > 15 {
+        return false;
+    }
+    if o.sb > 15 {
+        return false;
+    }
+    if o.a as usize >= symbol {
+        return false;
+    }
+    if o.b as usize >= symbol {
+        return false;
+    }
+    true
+}
+
+// The output's symbol stands below the number of symbols; a zero output has symbol 0, shift 0, width 1.
+fn output_in_range(o: Output, symbols: usize) -> bool
+    ensures { λ r. ⌜ r ≡ outputInRange symbols o ⌝ }
+{
+    if o.sign > 2 {
+        return false;
+    }
+    if o.shift > 15 {
+        return false;
+    }
+    if o.symbol as usize >= symbols {
+        return false;
+    }
+    if o.sign < 2 {
+        return true;
+    }
+    if o.symbol != 0 {
+        return false;
+    }
+    if o.shift != 0 {
+        return false;
+    }
+    if o.width != 1 {
+        return false;
+    }
+    true
+}
+
+// The recorded width is the width, which is at most 40.
+fn width_right(recorded: u8, width: u8) -> bool
+    ensures { λ r. ⌜ r ≡ widthRight recorded width ⌝ }
+{
+    if recorded != width {
+        return false;
+    }
+    if width > 40 {
+        return false;
+    }
+    true
+}
+
+// ---- the head
+
+fn head_refusal(bytes: &[u8]) -> u8
+    ensures { λ r. ⌜ r ≡ headRefusal (now (bytes .entry)) ⌝ }
+{
+    let refusal = record_refusal(bytes, 0, 2, 8);
+    if refusal != 0 {
+        return refusal;
+    }
+    let head = head_at(bytes);
+    if head_in_range(head) {
+        return 0;
+    }
+    9
+}
+
+// ---- operations
+
+// Operation k behind the k before it: its refusal, and where there is none, its coefficients and its depth in the tables.
+fn next_operation(
+    bytes: &[u8],
+    n: usize,
+    k: usize,
+    forms: &mut [i64; 4096],
+    depths: &mut [u16; 512],
+) -> u8
+    requires { ⌜ (n ≤ 8) × (k < 504) ⌝ }
+    requires { ⌜ FormsHeld (now bytes) n k (now forms) × DepthsHeld (now bytes) n k (now depths) ⌝ }
+    ensures { λ r. ⌜ OperationRead (now (bytes .entry)) n k r (now (forms .exit)) (now (depths .exit)) ⌝ }
+{
+    let place = 8 + 12 * k;
+    let refusal = record_refusal(bytes, place, 3, 12);
+    if refusal != 0 {
+        return refusal;
+    }
+    let o = operation_at(bytes, place);
+    let symbol = n + k;
+    if !operation_in_range(o, symbol) {
+        return 9;
+    }
+    width::append_form(forms, o, symbol, n);
+    let width = width::entry_width(forms, symbol, n, 16);
+    if !width_right(o.width, width) {
+        return 10;
+    }
+    let depth = width::operation_depth(depths, o);
+    depths[symbol] = depth;
+    0
+}
+
+// All operations of the head's count.
+fn read_operations(
+    bytes: &[u8],
+    head: Head,
+    forms: &mut [i64; 4096],
+    depths: &mut [u16; 512],
+) -> Refusal
+    requires { ⌜ (head .n ≤ 8) × (head .operations ≤ 504) ⌝ }
+    requires { ⌜ FormsHeld (now bytes) (head .n) 0 (now forms) × DepthsHeld (now bytes) (head .n) 0 (now depths) ⌝ }
+    ensures { λ r. ⌜ OperationsRead (now (bytes .entry)) head r (now (forms .exit)) (now (depths .exit)) ⌝ }
+{
+    let n = head.n as usize;
+    let count = head.operations as usize;
+    for k in 0..count {
+        let refusal = next_operation(bytes, n, k, forms, depths);
+        if refusal != 0 {
+            return Refusal {
+                refusal,
+                place: 8 + 12 * k,
+            };
+        }
+    }
+    Refusal {
+        refusal: 0,
+        place: 0,
+    }
+}
+
+// ---- outputs
+
+// Output i of a netlist whose operations are read.
+fn output_refusal(bytes: &[u8], n: usize, operations: usize, i: usize, forms: &[i64; 4096]) -> u8
+    requires { ⌜ (n ≤ 8) × ((operations ≤ 504) × (i < 8)) ⌝ }
+    requires { ⌜ FormsHeld (now bytes) n operations (now forms) ⌝ }
+    ensures { λ r. ⌜ r ≡ outputRefusal (now (bytes .entry)) n (operationsBefore (now (bytes .entry)) operations) i ⌝ }
+{
+    let place = 8 + 12 * operations + 9 * i;
+    let refusal = record_refusal(bytes, place, 4, 9);
+    if refusal != 0 {
+        return refusal;
+    }
+    let o = output_at(bytes, place);
+    if !output_in_range(o, n + operations) {
+        return 9;
+    }
+    let width = width::output_width(forms, o, n, 16);
+    if !width_right(o.width, width) {
+        return 10;
+    }
+    0
+}
+
+// All outputs, one per row.
+fn read_outputs(bytes: &[u8], head: Head, forms: &[i64; 4096]) -> Refusal
+    requires { ⌜ (head .n ≤ 8) × ((head .m ≤ 8) × (head .operations ≤ 504)) ⌝ }
+    requires { ⌜ FormsHeld (now bytes) (head .n) (head .operations) (now forms) ⌝ }
+    ensures { λ r. ⌜ OutputsRead (now (bytes .entry)) head (operationsBefore (now (bytes .entry)) (head .operations)) r ⌝ }
+{
+    let n = head.n as usize;
+    let operations = head.operations as usize;
+    let m = head.m as usize;
+    for i in 0..m {
+        let refusal = output_refusal(bytes, n, operations, i, forms);
+        if refusal != 0 {
+            return Refusal {
+                refusal,
+                place: 8 + 12 * operations + 9 * i,
+            };
+        }
+    }
+    Refusal {
+        refusal: 0,
+        place: 0,
+    }
+}
+
+// ---- totals
+
+fn larger(a: u16, b: u16) -> u16
+    ensures { λ r. ⌜ r ≡ max a b ⌝ }
+{
+    if a < b { b } else { a }
+}
+
+// The largest of so many depths.
+fn largest_depth(depths: &[u16; 512], symbols: usize) -> u16
+    requires { ⌜ (symbols ≤ 512) × (length (now depths) ≡ 512) ⌝ }
+    ensures { λ r. ⌜ r ≡ largest (take symbols (now (depths .entry))) ⌝ }
+{
+    let mut depth: u16 = 0;
+    for i in 0..symbols {
+        depth = larger(depth, depths[i]);
+    }
+    depth
+}
+
+fn totals_refusal(bytes: &[u8], place: usize, head: Head, depths: &[u16; 512]) -> u8
+    requires { ⌜ (head .n ≤ 8) × (head .operations ≤ 504) ⌝ }
+    requires { ⌜ DepthsHeld (now bytes) (head .n) (head .operations) (now depths) ⌝ }
+    ensures { λ r. ⌜ r ≡ totalsRefusal (now (bytes .entry)) place head (operationsBefore (now (bytes .entry)) (head .operations)) ⌝ }
+{
+    let refusal = record_refusal(bytes, place, 5, 8);
+    if refusal != 0 {
+        return refusal;
+    }
+    let totals = totals_at(bytes, place);
+    if totals.operations != head.operations {
+        return 11;
+    }
+    let symbols = head.n as usize + head.operations as usize;
+    let depth = largest_depth(depths, symbols);
+    if totals.depth != depth {
+        return 11;
+    }
+    0
+}
+
+// ---- the whole netlist
+
+// All records behind the head, and nothing behind the totals.
+fn records(bytes: &[u8], head: Head, forms: &mut [i64; 4096], depths: &mut [u16; 512]) -> Refusal
+    requires { ⌜ HeadRead (now bytes) head ⌝ }
+    requires { ⌜ (length (now forms) ≡ 4096) × (now depths ≡ filled 512 0) ⌝ }
+    ensures { λ r. ⌜ RecordsRead (now (bytes .entry)) r (now (forms .exit)) ⌝ }
+{
+    let n = head.n as usize;
+    width::start_forms(forms, n);
+    let operations = read_operations(bytes, head, forms, depths);
+    if operations.refusal != 0 {
+        return operations;
+    }
+    let outputs = read_outputs(bytes, head, forms);
+    if outputs.refusal != 0 {
+        return outputs;
+    }
+    let place = 8 + 12 * (head.operations as usize) + 9 * (head.m as usize);
+    let refusal = totals_refusal(bytes, place, head, depths);
+    if refusal != 0 {
+        return Refusal { refusal, place };
+    }
+    if bytes.len() > place + 8 {
+        return Refusal {
+            refusal: 12,
+            place: place + 8,
+        };
+    }
+    Refusal {
+        refusal: 0,
+        place: 0,
+    }
+}
+
+fn refused(refusal: u8, place: usize) -> ReadAnswer
+    ensures { λ r. ⌜ r ≡ record { refusal = refusal; place = place; m = 0; n = 0; operations = 0; depth = 0 } ⌝ }
+{
+    ReadAnswer {
+        refusal,
+        place,
+        m: 0,
+        n: 0,
+        operations: 0,
+        depth: 0,
+    }
+}
+
+// Read, and where it accepts, the coefficients of every entry in the first table.
+pub fn netlist(bytes: &[u8], forms: &mut [i64; 4096], depths: &mut [u16; 512]) -> ReadAnswer
+    requires { ⌜ (length (now forms) ≡ 4096) × (now depths ≡ filled 512 0) ⌝ }
+    ensures { λ r. ⌜ (r ≡ readAnswer (now (bytes .entry))) × (r .refusal ≡ 0 → NetlistHeld (now (bytes .entry)) (now (forms .exit))) ⌝ }
+{
+    let refusal = head_refusal(bytes);
+    if refusal != 0 {
+        return refused(refusal, 0);
+    }
+    let head = head_at(bytes);
+    let behind = records(bytes, head, forms, depths);
+    if behind.refusal != 0 {
+        return refused(behind.refusal, behind.place);
+    }
+    let place = 8 + 12 * (head.operations as usize) + 9 * (head.m as usize);
+    let totals = totals_at(bytes, place);
+    ReadAnswer {
+        refusal: 0,
+        place: 0,
+        m: head.m,
+        n: head.n,
+        operations: head.operations,
+        depth: totals.depth,
+    }
+}
+
+// A table for coefficients, and one for depths.
+pub fn blank_forms() -> [i64; 4096]
+    ensures { λ r. ⌜ r ≡ filled 4096 (pos 0) ⌝ }
+{
+    [0; 4096]
+}
+
+pub fn blank_depths() -> [u16; 512]
+    ensures { λ r. ⌜ r ≡ filled 512 0 ⌝ }
+{
+    [0; 512]
+}
+
+// A netlist's m, n, operations and depth, for any bytes.
+pub fn read(bytes: &[u8]) -> ReadAnswer
+    ensures { λ r. ⌜ r ≡ readAnswer (now (bytes .entry)) ⌝ }
+{
+    let mut forms = blank_forms();
+    let mut depths = blank_depths();
+    netlist(bytes, &mut forms, &mut depths)
+}

@@ -1,0 +1,53 @@
+-- `listing::write_last` meets its contract. Assumes nothing.
+use native.Mathlib.Omega.{arith}
+use Rattle.listing.specs.Listing.{ascii}
+use Rattle.listing.proofs.Wrote.{wrote-copy, wrote-more}
+use borrow.Author.Needs.{needs}
+use Rattle.listing.proofs.write_last.Statement.{statement}
+use Rattle.listing.proofs.write_last.Tie as tie
+
+write-labelled-requires : tie.Need-write-labelled-requires
+write-labelled-requires c κs = search needs
+
+slice-aggregate-copy : tie.Need-slice-aggregate-copy
+slice-aggregate-copy c = search needs
+
+sub-copy : tie.Need-sub-copy
+sub-copy c = search needs
+
+part-copy-start : tie.Need-part-copy-start
+part-copy-start c = search needs
+
+part-copy-end : tie.Need-part-copy-end
+part-copy-end c = search needs
+
+copy-requires : tie.Need-copy-requires
+copy-requires c κs = search needs
+
+add-result : tie.Need-add-result
+add-result c = search needs
+
+same-length : tie.Need-same-length
+same-length c = search needs
+
+returns : tie.Need-returns
+returns c =
+    let first = c .before .before .before .before .before .before .before .write-labelled in
+    let second = c .before .before .copy in (
+      wrote-more (first .ensures .0) (wrote-copy _ (ascii "\n") _ _ (second .ensures .0) (second .ensures .1)),
+      omega (arith, first .ensures .1, second .ensures .0),
+    )
+
+pub write-last-spec : {M : Type 1} → statement M
+write-last-spec =
+    tie.close
+    (tie.spec
+    write-labelled-requires
+    slice-aggregate-copy
+    sub-copy
+    part-copy-start
+    part-copy-end
+    copy-requires
+    add-result
+    same-length
+    returns)

@@ -1,0 +1,69 @@
+-- `listing::write_listing` meets its contract. Assumes nothing.
+use native.Mathlib.Omega.{arith}
+use Rattle.listing.proofs.Wrote.{wrote-more}
+use borrow.Author.Needs.{needs}
+use Rattle.listing.proofs.write_listing.Statement.{statement}
+use Rattle.listing.proofs.write_listing.Tie as tie
+
+write-counts-requires : tie.Need-write-counts-requires
+write-counts-requires c κs = search needs
+
+sub-write-operations : tie.Need-sub-write-operations
+sub-write-operations c = search needs
+
+part-write-operations-start : tie.Need-part-write-operations-start
+part-write-operations-start c = search needs
+
+part-write-operations-end : tie.Need-part-write-operations-end
+part-write-operations-end c = search needs
+
+write-operations-requires : tie.Need-write-operations-requires
+write-operations-requires c κs = search needs
+
+add-outputs : tie.Need-add-outputs
+add-outputs c = search needs
+
+sub-write-outputs : tie.Need-sub-write-outputs
+sub-write-outputs c = search needs
+
+part-write-outputs-start : tie.Need-part-write-outputs-start
+part-write-outputs-start c = search needs
+
+part-write-outputs-end : tie.Need-part-write-outputs-end
+part-write-outputs-end c = search needs
+
+write-outputs-requires : tie.Need-write-outputs-requires
+write-outputs-requires c κs = search needs
+
+add-result : tie.Need-add-result
+add-result c = search needs
+
+same-length : tie.Need-same-length
+same-length c = search needs
+
+returns : tie.Need-returns
+returns c =
+    let counts = c .before .before .before .before .before .before .before .before .before .before .write-counts in
+    let operations = c .before .before .before .before .before .before .write-operations in
+    let outputs = c .before .before .write-outputs in (
+      wrote-more (wrote-more (counts .ensures .0) (operations .ensures .0)) (outputs .ensures .0),
+      omega (arith, counts .ensures .1, operations .ensures .1, outputs .ensures .1),
+    )
+
+pub write-listing-spec : {M : Type 1} → statement M
+write-listing-spec =
+    tie.close
+    (tie.spec
+    write-counts-requires
+    sub-write-operations
+    part-write-operations-start
+    part-write-operations-end
+    write-operations-requires
+    add-outputs
+    sub-write-outputs
+    part-write-outputs-start
+    part-write-outputs-end
+    write-outputs-requires
+    add-result
+    same-length
+    returns)

@@ -1,0 +1,83 @@
+-- `listing::write_place` meets its contract. Assumes nothing.
+use native.Mathlib.Omega.{arith}
+use lib.ListN.{length-take, length-drop}
+use Rattle.listing.specs.Listing.{ascii}
+use Rattle.listing.proofs.Decimal.{length-number}
+use Rattle.listing.proofs.Wrote.{wrote-copy, wrote-more}
+use borrow.Author.Needs.{needs}
+use Rattle.listing.proofs.write_place.Statement.{statement}
+use Rattle.listing.proofs.write_place.Tie as tie
+
+slice-aggregate-copy : tie.Need-slice-aggregate-copy
+slice-aggregate-copy c = search needs
+
+copy-requires : tie.Need-copy-requires
+copy-requires c κs = search needs
+
+sub-write-number : tie.Need-sub-write-number
+sub-write-number c = search needs
+
+part-write-number-start : tie.Need-part-write-number-start
+part-write-number-start c = search needs
+
+part-write-number-end : tie.Need-part-write-number-end
+part-write-number-end c = search needs
+
+write-number-requires : tie.Need-write-number-requires
+write-number-requires c κs =
+    let s = c .before .before .before .before .before .before .before in
+    let digits = length-number 19 (s .args .place) (omega (arith, s .fits .place)) in
+    simp (length-take, length-drop) (omega arith)
+
+add-end : tie.Need-add-end
+add-end c = search needs
+
+slice-aggregate-copy-2 : tie.Need-slice-aggregate-copy-2
+slice-aggregate-copy-2 c = search needs
+
+sub-copy : tie.Need-sub-copy
+sub-copy c = search needs
+
+part-copy-start : tie.Need-part-copy-start
+part-copy-start c = search needs
+
+part-copy-end : tie.Need-part-copy-end
+part-copy-end c = search needs
+
+copy-requires-2 : tie.Need-copy-requires-2
+copy-requires-2 c κs = search needs
+
+add-result : tie.Need-add-result
+add-result c = search needs
+
+same-length : tie.Need-same-length
+same-length c = search needs
+
+returns : tie.Need-returns
+returns c =
+    let at = c .before .before .before .before .before .before .before .before .before .before .before .copy in
+    let place = c .before .before .before .before .before .before .before .write-number in
+    let end = c .before .before .copy2 in (
+      wrote-more (wrote-more (wrote-copy _ (ascii " at ") _ _ (at .ensures .0) (at .ensures .1)) (place .ensures .0)) (wrote-copy _ (ascii "\n") _ _ (end .ensures .0) (end .ensures .1)),
+      omega (arith, at .ensures .0, end .ensures .0, place .ensures .1),
+    )
+
+pub write-place-spec : {M : Type 1} → statement M
+write-place-spec =
+    tie.close
+    (tie.spec
+    slice-aggregate-copy
+    copy-requires
+    sub-write-number
+    part-write-number-start
+    part-write-number-end
+    write-number-requires
+    add-end
+    slice-aggregate-copy-2
+    sub-copy
+    part-copy-start
+    part-copy-end
+    copy-requires-2
+    add-result
+    same-length
+    returns)

@@ -1,0 +1,5 @@
+pub mod Decimal
+pub mod Listing
+pub mod Wrote
+pub mod Records
+pub mod Marked
