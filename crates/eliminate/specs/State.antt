@@ -2,9 +2,10 @@
 -- Assumes nothing.
 use Prim.Native.Nat.{ℕ}
 use mathlib.Core.Bool.{false}
-use mathlib.Core.List.{List, map}
+use mathlib.Core.List.{List, map, List·Memᴰ}
 use lib.ListN.{take}
 use Rattle.term.specs.declared.Term.{Term}
+use Rattle.elimination.specs.Rows.{Ascending}
 use Rattle.eliminate.specs.declared.row.Row.{Row}
 use Rattle.eliminate.specs.declared.rows.Rows.{Rows}
 
@@ -17,3 +18,7 @@ rowTerms r = take (r .count) (r .terms)
 
 unfoldable pub rowsTerms : Rows → List (List Term)
 rowsTerms rows = map rowTerms (take (rows .m) (rows .rows))
+
+-- every row is in order
+abbrev pub AllAscending : List (List Term) → Type 0
+AllAscending rows = (r : List Term) → List·Memᴰ r rows → Ascending r

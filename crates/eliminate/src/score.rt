@@ -58,3 +58,36 @@ fn takes(signs: &[u8; SIZE], row: usize, d: Divisor, flags: [bool; 16], c: usize
     }
     false
 }
+
+pub fn taken_in_row(signs: &[u8; SIZE], row: usize, d: Divisor) -> Taken
+    requires { ⌜ row < 8 ⌝ }
+    ensures { λ r. ⌜ (r .flags ≡ takenFlags (tableSigns 260 16 (now (signs .entry)) row) d 16) × (r .count ≡ countTrue (takenFlags (tableSigns 260 16 (now (signs .entry)) row) d 16)) ⌝ }
+{
+    let mut flags = [false; 16];
+    let mut count = 0;
+    let mut c = 0;
+    while c < 16 {
+        let taken = takes(signs, row, d, flags, c);
+        flags[c] = taken;
+        if taken {
+            count += 1;
+        }
+        c += 1;
+    }
+    Taken { flags, count }
+}
+
+// The score in the first m rows.
+pub fn score(signs: &[u8; SIZE], m: usize, d: Divisor) -> usize
+    requires { ⌜ m ≤ 8 ⌝ }
+    ensures { λ r. ⌜ r ≡ lookupScore 16 (rowsSignsFrom 260 16 (now (signs .entry)) 0 m) d ⌝ }
+{
+    let mut n = 0;
+    let mut i = 0;
+    while i < m {
+        let taken = taken_in_row(signs, i, d);
+        n += taken.count;
+        i += 1;
+    }
+    n
+}
