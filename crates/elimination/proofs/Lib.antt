@@ -4,4 +4,17 @@ pub mod RowOrder
 pub mod Taken
 pub mod Replaced
 pub mod Value
+pub mod Order
+pub mod Counts
+pub mod Pick
+pub mod Ties
+pub mod End
+pub mod Weights
+pub mod Matrix
+pub mod Elimination
 pub mod Marked
+pub mod LookupSigns
+pub mod LookupTaken
+pub mod LookupPick
+pub mod LookupAfter
+pub mod LookupFlags

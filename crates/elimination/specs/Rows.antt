@@ -26,6 +26,18 @@ abbrev pub NoneTwice : Row → Type 0
 NoneTwice [] = Unit {0}
 NoneTwice (t ∷ r) = ((u : Term) → List·Memᴰ u r → (t .symbol ≡ u .symbol) × (t .exponent ≡ u .exponent) → ⊥) × NoneTwice r
 
+-- what every row keeps: its order, no two terms of one symbol and exponent, exponents below the number of positions, and symbols
+-- below the next one
+pub record WellFormed (positions symbol : ℕ) (r : Row) : Type 0 where
+  pub ascending : Ascending r
+  pub none-twice : NoneTwice r
+  pub exponents : (t : Term) → List·Memᴰ t r → t .exponent < positions
+  pub symbols : (t : Term) → List·Memᴰ t r → t .symbol < symbol
+
+abbrev pub EachRow : (Row → Type 0) → List Row → Type 0
+EachRow P [] = Unit {0}
+EachRow P (r ∷ rs) = P r × EachRow P rs
+
 -- ---- the matrix's rows
 
 -- one term for each nonzero digit: its column's symbol, its position, its sign

@@ -1,0 +1,78 @@
+-- Replacements are at least twice the divisors; the plain count goes down by the replacements; and a matrix's plain count, and so
+-- the number of divisors, is limited by its size.
+-- Assumes nothing.
+use Prim.Native.Nat.{ℕ, zero, suc, _+_, _*_, _-_, _≤_, pred}
+use mathlib.Core.Path.{_≡_, refl, ap}
+use mathlib.Core.List.{List, [], _∷_, _++_}
+use native.Mathlib.Omega.{arith}
+use native.Mathlib.Nat.{mul-le-mul}
+use lib.IntN.{ℤ, pos, negsuc}
+use lib.ListN.{length, length-append}
+use Rattle.digits.specs.Digits.{digits, nonzero}
+use Rattle.digits.proofs.Count.{digits-nonzero-half}
+use Rattle.elimination.specs.declared.Divisor.{Divisor}
+use Rattle.elimination.specs.Rows.{Row, columnTerms, rowFrom, matrixRows, plainCount}
+use Rattle.elimination.specs.Divisors.{taken, score}
+use Rattle.elimination.specs.Elimination.{rowAfter, rowsAfter}
+use Rattle.elimination.specs.Steps.{Steps, end, step}
+use Rattle.elimination.proofs.Order.{Columns}
+use Rattle.elimination.proofs.Replaced.{length-after}
+
+-- ---- of steps
+
+pub plain-after : (symbol : ℕ) (d : Divisor) (rows : List Row) → plainCount (rowsAfter symbol d rows) + score d rows ≡ plainCount rows
+unfolding plainCount rowsAfter score
+plain-after symbol d [] = refl
+plain-after symbol d (r ∷ rows) = omega (arith, length-after symbol d r .1, plain-after symbol d rows)
+
+pub steps-twice : {symbol : ℕ} {rows : List Row} {ds : List Divisor} {k : ℕ} {after : List Row} → Steps symbol rows ds k after → 2 * length ds ≤ k
+steps-twice end = omega arith
+steps-twice (step d h more) = omega (arith, steps-twice more)
+
+pub steps-plain : {symbol : ℕ} {rows : List Row} {ds : List Divisor} {k : ℕ} {after : List Row} → Steps symbol rows ds k after → plainCount after + k ≡ plainCount rows
+steps-plain end = omega arith
+steps-plain {symbol} {rows} (step d h more) = omega (arith, steps-plain more, plain-after symbol d rows)
+
+-- the operations, one for each divisor and (terms − 1) for each remaining row, are plain + divisors − replacements
+pub steps-operations : {symbol : ℕ} {rows : List Row} {ds : List Divisor} {k : ℕ} {after : List Row}
+    → Steps symbol rows ds k after → (plainCount after + length ds) + k ≡ plainCount rows + length ds
+steps-operations s = omega (arith, steps-plain s)
+
+pub steps-divisors : {symbol : ℕ} {rows : List Row} {ds : List Divisor} {k : ℕ} {after : List Row} → Steps symbol rows ds k after → 2 * length ds ≤ plainCount rows
+steps-divisors s = omega (arith, steps-plain s, steps-twice s)
+
+-- ---- of a matrix
+
+column-count : (column position : ℕ) (ds : List ℤ) → length (columnTerms column position ds) ≡ nonzero ds
+unfolding columnTerms nonzero
+column-count column position [] = refl
+column-count column position (pos zero ∷ ds) = column-count column (suc position) ds
+column-count column position (pos (suc d) ∷ ds) = ap suc (column-count column (suc position) ds)
+column-count column position (negsuc d ∷ ds) = ap suc (column-count column (suc position) ds)
+
+row-count : (half column : ℕ) (zs : List ℤ) → length (rowFrom (2 * half) column zs) ≤ half * length zs
+unfolding rowFrom
+row-count half column [] = omega arith
+row-count half column (z ∷ zs) = omega (
+  arith,
+  length-append (columnTerms column 0 (digits (2 * half) z)) (rowFrom (2 * half) (suc column) zs),
+  column-count column 0 (digits (2 * half) z),
+  digits-nonzero-half half z,
+  row-count half (suc column) zs,
+)
+
+-- m rows of n columns and twice half positions
+pub matrix-plain : (half n : ℕ) (m : List (List ℤ)) → Columns n m → plainCount (matrixRows (2 * half) m) ≤ length m * (half * n - 1)
+unfolding plainCount matrixRows
+matrix-plain half n [] c = omega arith
+matrix-plain half n (zs ∷ m) c = omega (arith, row-count half 0 zs, ap (λ (k : ℕ). half * k) (c .0), matrix-plain half n m (c .1))
+
+-- 8 by 8 at the most, 16 positions: the plain count is at most 504
+pub plain-within : (n : ℕ) (m : List (List ℤ)) → Columns n m → n ≤ 8 → length m ≤ 8 → plainCount (matrixRows 16 m) ≤ 504
+plain-within n m c hn hm =
+    let wide : 8 * n - 1 ≤ 63 = omega arith in
+    omega (arith, matrix-plain 8 n m c, mul-le-mul hm wide)
+
+pub divisors-within : (n : ℕ) (m : List (List ℤ)) → Columns n m → n ≤ 8 → length m ≤ 8 → {symbol : ℕ} {ds : List Divisor} {k : ℕ} {after : List Row}
+    → Steps symbol (matrixRows 16 m) ds k after → length ds ≤ 252
+divisors-within n m c hn hm s = omega (arith, steps-divisors s, plain-within n m c hn hm)
