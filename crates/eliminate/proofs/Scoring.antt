@@ -14,6 +14,7 @@ use lib.Seq.{set-at}
 use Rattle.elimination.specs.declared.Divisor.{Divisor}
 use Rattle.elimination.specs.Lookup.{Signs, occursWith, occursAt, overlapsTaken, takenFlags, countTrue, lookupScore, signAt, rowsSigns}
 use Rattle.elimination.specs.Rows.{Row}
+use Rattle.elimination.proofs.LookupFlags.{padded-flag}
 use Rattle.eliminate.specs.Signs.{tableSigns, rowsSignsFrom}
 
 -- ---- the occurrence with a co-divisor: both signs were looked up
@@ -80,16 +81,6 @@ unfolding takenFlags
 flags-length signs d zero = refl
 flags-length signs d (suc c) = length-append (takenFlags signs d c) _ ∙ omega (arith, flags-length signs d c)
 
-none-flag : (n k : ℕ) → getD (replicate n false) k false ≡ false
-none-flag zero k = refl
-none-flag (suc n) zero = refl
-none-flag (suc n) (suc k) = none-flag n k
-
-padded-at : (flags : List Bool) (n k : ℕ) → getD (flags ++ replicate n false) k false ≡ getD flags k false
-padded-at [] n k = none-flag n k
-padded-at (f ∷ flags) n zero = refl
-padded-at (f ∷ flags) n (suc k) = padded-at flags n k
-
 module _ (positions : ℕ) (signs : Signs) (d : Divisor) where
   pub padded-start : replicate positions false ≡ padded positions signs d 0
   unfolding padded takenFlags
@@ -101,7 +92,7 @@ module _ (positions : ℕ) (signs : Signs) (d : Divisor) where
 
   overlap-padded : (c : ℕ) → overlapsTaken d (padded positions signs d c) c ≡ overlapsTaken d (takenFlags signs d c) c
   unfolding padded
-  overlap-padded c = ap (λ (b : Bool). eqb (d .a) (d .b) && (leb (d .eb) c && b)) (padded-at (takenFlags signs d c) (positions - c) (c - d .eb))
+  overlap-padded c = ap (λ (b : Bool). eqb (d .a) (d .b) && (leb (d .eb) c && b)) (padded-flag (takenFlags signs d c) (positions - c) (c - d .eb))
 
   module _ (c : ℕ) (b : Bool) (e : b ≡ (occursAt signs d c && not (overlapsTaken d (padded positions signs d c) c))) where
     next-flag : takenFlags signs d (c + 1) ≡ takenFlags signs d c ++ (b ∷ [])

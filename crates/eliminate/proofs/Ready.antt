@@ -1,0 +1,100 @@
+-- What a step needs of rows gives what its parts need, and the rows after it have it again.
+-- Assumes nothing.
+use Prim.Native.Nat.{ℕ, suc, _+_, _≤_, _<_}
+use mathlib.Core.Path.{_≡_, refl, sym, ap, _∙_}
+use mathlib.Core.List.{List, [], _∷_, List·Memᴰ}
+use native.Mathlib.Omega.{arith}
+use native.Mathlib.Nat.{zero-add}
+use lib.ListN.{length, getD}
+use Rattle.term.specs.declared.Term.{Term}
+use Rattle.elimination.specs.declared.Divisor.{Divisor}
+use Rattle.elimination.specs.Rows.{Row, WellFormed, EachRow}
+use Rattle.elimination.specs.Divisors.{taken}
+use Rattle.elimination.specs.Elimination.{Scored, before, noPairs, allPairs, pick, rowAfter, rowsAfter}
+use Rattle.elimination.specs.Lookup.{Proper, Signs, signAt, rowsSigns, lookupBest, lookupPick, lookupRowAfter}
+use Rattle.elimination.proofs.Order.{each-row, rows-well-formed-after}
+use Rattle.elimination.proofs.Replaced.{length-after}
+use Rattle.elimination.proofs.LookupAfter.{row-after-looked-up}
+use Rattle.elimination.proofs.LookupPick.{pick-looked-up, pick-proper}
+use Rattle.eliminate.specs.State.{AllAscending, Ready}
+use Rattle.eliminate.specs.Signs.{Within, Placed, tableSigns, rowsSignsFrom, signTable}
+use Rattle.eliminate.specs.Step.{rowAfterBy}
+use Rattle.eliminate.proofs.Members.{member-at}
+use Rattle.eliminate.proofs.SignTable.{table-signs}
+use Rattle.eliminate.proofs.Scoring.{rows-signs}
+
+by-own-signs : (positions symbol : ℕ) (d : Divisor) (r : Row) → rowAfterBy positions symbol d (signAt r) r ≡ lookupRowAfter positions symbol d r
+unfolding rowAfterBy lookupRowAfter
+by-own-signs positions symbol d r = refl
+
+module _ (symbol : ℕ) (rows : List Row) (ready : Ready symbol rows) where
+  pub ascending : AllAscending rows
+  ascending r m = each-row (WellFormed 16 symbol) rows (ready .well-formed) r m .ascending
+
+  module _ (limit : symbol ≤ 259) where
+    within : (r : Row) → List·Memᴰ r rows → Within 260 16 r
+    within r m t k =
+        let w = each-row (WellFormed 16 symbol) rows (ready .well-formed) r m in
+        (omega (arith, w .symbols t k), w .exponents t k)
+
+    pub placed : Placed 260 16 rows
+    placed r m = (ascending r m, within r m)
+
+    table-row : (i : ℕ) → i < length rows → tableSigns 260 16 (signTable 260 16 8 rows) i ≡ signAt (getD rows i [])
+    table-row i h = table-signs 260 16 8 rows placed (ready .few) i h
+
+    -- the pick
+    table-rows : rowsSignsFrom 260 16 (signTable 260 16 8 rows) 0 (length rows) ≡ rowsSigns rows
+    table-rows = rows-signs 260 16 (signTable 260 16 8 rows) 0 rows (λ i h. ap (tableSigns 260 16 (signTable 260 16 8 rows)) (zero-add i) ∙ table-row i h)
+
+    pub picked : (table : List ℕ) → table ≡ signTable 260 16 8 rows → (best : Scored)
+        → best ≡ lookupBest 16 before (rowsSignsFrom 260 16 table 0 (length rows)) noPairs (allPairs rows) → best ≡ pick before rows
+    picked table t best e =
+        e
+        ∙ ap (λ (x : List ℕ). lookupBest 16 before (rowsSignsFrom 260 16 x 0 (length rows)) noPairs (allPairs rows)) t
+        ∙ ap (λ (signs : List Signs). lookupBest 16 before signs noPairs (allPairs rows)) table-rows
+        ∙ by-look-up
+        ∙ pick-looked-up 16 symbol before rows (ready .well-formed)
+      where
+        by-look-up : lookupBest 16 before (rowsSigns rows) noPairs (allPairs rows) ≡ lookupPick 16 before rows
+        by-look-up = unfold lookupPick in refl
+
+    pub picked-proper : (best : Scored) → best ≡ pick before rows → 2 ≤ best .score → Proper (best .divisor)
+    picked-proper best e h =
+        rw e (pick-proper 16 symbol before rows (ready .well-formed) (rw e at h))
+
+    -- the row after a step
+    module _ (i : ℕ) (h : i < length rows) where
+      pub row-within : Within 260 16 (getD rows i [])
+      row-within = within (getD rows i []) (member-at rows i [] h)
+
+      pub row-short : length (getD rows i []) ≤ 64
+      row-short = each-row (λ r. length r ≤ 64) rows (ready .short) (getD rows i []) (member-at rows i [] h)
+
+      pub row-after-is : (d : Divisor) → Proper d → rowAfterBy 16 symbol d (tableSigns 260 16 (signTable 260 16 8 rows) i) (getD rows i []) ≡ rowAfter symbol d (getD rows i [])
+      row-after-is d proper =
+          let r : Row = getD rows i [] in
+          let w = each-row (WellFormed 16 symbol) rows (ready .well-formed) r (member-at rows i [] h) in
+          rw (table-row i h) (by-own-signs 16 symbol d r ∙ row-after-looked-up 16 symbol d proper r (w .ascending) (w .exponents))
+
+      pub row-after-short : (d : Divisor) → length (rowAfter symbol d (getD rows i [])) ≤ 64
+      row-after-short d = omega (arith, length-after symbol d (getD rows i []) .0, row-short)
+
+-- ---- the rows after a step
+
+length-rows-after : (symbol : ℕ) (d : Divisor) (rows : List Row) → length (rowsAfter symbol d rows) ≡ length rows
+unfolding rowsAfter
+length-rows-after symbol d [] = refl
+length-rows-after symbol d (r ∷ rs) = ap suc (length-rows-after symbol d rs)
+
+short-after : (symbol most : ℕ) (d : Divisor) (rows : List Row) → EachRow (λ r. length r ≤ most) rows → EachRow (λ r. length r ≤ most) (rowsAfter symbol d rows)
+unfolding rowsAfter
+short-after symbol most d [] s = tt
+short-after symbol most d (r ∷ rs) s = (omega (arith, length-after symbol d r .0, s .0), short-after symbol most d rs (s .1))
+
+pub ready-after : (symbol : ℕ) (d : Divisor) (rows : List Row) → Ready symbol rows → Ready (suc symbol) (rowsAfter symbol d rows)
+ready-after symbol d rows ready = record {
+  few = omega (arith, length-rows-after symbol d rows, ready .few);
+  short = short-after symbol 64 d rows (ready .short);
+  well-formed = rows-well-formed-after 16 symbol d rows (ready .well-formed);
+}
