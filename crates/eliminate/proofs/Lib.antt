@@ -6,3 +6,4 @@ pub mod Scoring
 pub mod Picking
 pub mod Stepping
 pub mod Ready
+pub mod Columns

@@ -2,23 +2,28 @@
 -- Assumes nothing.
 use Prim.Native.Nat.{ℕ, suc, _+_, _≤_, _<_}
 use mathlib.Core.Path.{_≡_, refl, sym, ap, _∙_}
-use mathlib.Core.List.{List, [], _∷_, List·Memᴰ}
+use mathlib.Core.List.{List, [], _∷_, _++_, List·Memᴰ}
 use native.Mathlib.Omega.{arith}
 use native.Mathlib.Nat.{zero-add}
+use lib.Dec.{ltb}
+use lib.IntN.{ℤ}
 use lib.ListN.{length, getD}
+use borrow.Author.Tests.{ltb-false}
 use Rattle.term.specs.declared.Term.{Term}
 use Rattle.elimination.specs.declared.Divisor.{Divisor}
-use Rattle.elimination.specs.Rows.{Row, WellFormed, EachRow}
+use Rattle.elimination.specs.Rows.{Row, WellFormed, EachRow, rowFrom, matrixRows, plainCount}
 use Rattle.elimination.specs.Divisors.{taken}
-use Rattle.elimination.specs.Elimination.{Scored, before, noPairs, allPairs, pick, rowAfter, rowsAfter}
+use Rattle.elimination.specs.Elimination.{Scored, before, noPairs, allPairs, pick, rowAfter, rowsAfter, smallestFirst, eliminate, andThen}
 use Rattle.elimination.specs.Lookup.{Proper, Signs, signAt, rowsSigns, lookupBest, lookupPick, lookupRowAfter}
-use Rattle.elimination.proofs.Order.{each-row, rows-well-formed-after}
+use Rattle.elimination.proofs.Order.{each-row, rows-well-formed-after, Columns, matrix-well-formed}
+use Rattle.elimination.proofs.Counts.{matrix-plain}
+use Rattle.elimination.proofs.Tests.{by-bool}
 use Rattle.elimination.proofs.Replaced.{length-after}
 use Rattle.elimination.proofs.LookupAfter.{row-after-looked-up}
 use Rattle.elimination.proofs.LookupPick.{pick-looked-up, pick-proper}
 use Rattle.eliminate.specs.State.{AllAscending, Ready}
 use Rattle.eliminate.specs.Signs.{Within, Placed, tableSigns, rowsSignsFrom, signTable}
-use Rattle.eliminate.specs.Step.{rowAfterBy}
+use Rattle.eliminate.specs.Step.{StepAnswer, stepAnswer, rowAfterBy}
 use Rattle.eliminate.proofs.Members.{member-at}
 use Rattle.eliminate.proofs.SignTable.{table-signs}
 use Rattle.eliminate.proofs.Scoring.{rows-signs}
@@ -98,3 +103,50 @@ ready-after symbol d rows ready = record {
   short = short-after symbol 64 d rows (ready .short);
   well-formed = rows-well-formed-after 16 symbol d rows (ready .well-formed);
 }
+
+-- ---- the matrix's rows
+
+matrix-short : (n : ℕ) (m : List (List ℤ)) → Columns n m → n ≤ 8 → EachRow (λ r. length r ≤ 64) (matrixRows 16 m)
+unfolding matrixRows
+matrix-short n [] c h = tt
+matrix-short n (zs ∷ m) c h = (row-most, matrix-short n m (c .1) h)
+  where
+    row-most : length (rowFrom 16 0 zs) ≤ 64
+    row-most = unfold matrixRows plainCount in omega (arith, matrix-plain 8 n (zs ∷ []) (c .0, tt))
+
+length-matrix : (m : List (List ℤ)) → length (matrixRows 16 m) ≡ length m
+unfolding matrixRows
+length-matrix [] = refl
+length-matrix (zs ∷ m) = ap suc (length-matrix m)
+
+pub ready-matrix : (n : ℕ) (m : List (List ℤ)) → Columns n m → n ≤ 8 → length m ≤ 8 → Ready n (matrixRows 16 m)
+ready-matrix n m c hn hm = record {
+  few = omega (arith, length-matrix m);
+  short = matrix-short n m c hn;
+  well-formed = matrix-well-formed 16 n m c;
+}
+
+-- ---- elimination, step by step
+
+module _ (fuel symbol : ℕ) (made : List Divisor) (rows : List Row) where
+  abbrev answer : StepAnswer
+  answer = stepAnswer symbol rows
+
+  pub step-ends : answer .replaced ≡ 0 → (answer .rows ≡ rows) × (eliminate smallestFirst (suc fuel) symbol made rows ≡ record { divisors = []; replacements = 0; remainingRows = rows })
+  unfolding stepAnswer eliminate
+  step-ends h =
+      by-bool (ltb (pick before rows .score) 2)
+      (λ y. (rw (y, stepAnswer), rw (y, eliminate)))
+      (λ n.
+      let l : 2 ≤ pick before rows .score = ltb-false (pick before rows .score) 2 n in
+      let z : pick before rows .score ≡ 0 = rw (n, stepAnswer) at h in
+      absurd (omega arith))
+
+  pub step-goes-on : (answer .replaced ≡ 0 → ⊥)
+      → eliminate smallestFirst (suc fuel) symbol made rows
+      ≡ andThen (record { divisor = answer .divisor; score = answer .replaced }) (eliminate smallestFirst fuel (suc symbol) (made ++ (answer .divisor ∷ [])) (answer .rows))
+  unfolding stepAnswer eliminate
+  step-goes-on h =
+      by-bool (ltb (pick before rows .score) 2)
+      (λ y. absurd (h (rw (y, stepAnswer))))
+      (λ n. rw (n, eliminate, stepAnswer))
