@@ -2,7 +2,7 @@
 -- Assumes nothing.
 use Prim.Native.Nat.{ℕ, zero, suc, _+_, _≤_, _<_}
 use mathlib.Core.Path.{_≡_, refl, sym, ap, _∙_}
-use mathlib.Core.Bool.{Bool, true, false}
+use mathlib.Core.Bool.{Bool}
 use mathlib.Core.List.{List, [], _∷_, _++_, append-nil, append-assoc}
 use native.Mathlib.Omega.{arith}
 use native.Mathlib.Numerals.{add-one}
@@ -13,8 +13,7 @@ use lib.ListN.{length, getD, drop, length-append}
 use mir.Syntax.{w8}
 use mir.Val.{SFits}
 use Rattle.term.specs.declared.Term.{Term}
-use Rattle.digits.specs.Digits.{IsDigit, minus-one, none, one, digits, digitAt, nonzero}
-use Rattle.digits.proofs.Canonic.{digits-length, digits-are}
+use Rattle.digits.specs.Digits.{IsDigit, minus-one, none, one, digits, nonzero}
 use Rattle.digits.proofs.Count.{digits-nonzero-half}
 use Rattle.elimination.specs.Rows.{Row, columnTerms}
 use Rattle.eliminate.proofs.Members.{left-next, left-none}

@@ -2,11 +2,11 @@
 -- Assumes nothing.
 use Prim.Native.Nat.{ℕ, _+_, _-_, _≤_, _<_, min}
 use mathlib.Core.Path.{_≡_, refl, sym, ap, _∙_}
-use mathlib.Core.Bool.{Bool, true, false, not, _&&_, _||_, Bool·beq, or-false}
+use mathlib.Core.Bool.{Bool, true, false, not, _&&_, Bool·beq, or-false}
 use mathlib.Core.List.{List, [], _∷_, _++_}
 use native.Mathlib.Omega.{arith}
-use borrow.Author.Tests.{eq-eqb, ne-eqb, le-ltb, lt-ltb}
-use lib.Dec.{eqb, ltb}
+use borrow.Author.Tests.{eq-eqb, ne-eqb, le-ltb}
+use lib.Dec.{ltb}
 use lib.ListN.{length, getD, drop}
 use Rattle.term.specs.declared.Term.{Term}
 use Rattle.elimination.specs.declared.Divisor.{Divisor}

@@ -1,21 +1,22 @@
 -- What the tests of a co-divisor say, and the flags and scores that the loops leave.
 -- Assumes nothing.
-use Prim.Native.Nat.{ℕ, zero, suc, _+_, _*_, _-_, _≤_, _<_}
+use Prim.Native.Nat.{ℕ, zero, suc, _+_, _-_, _≤_, _<_, max}
 use mathlib.Core.Path.{_≡_, refl, sym, ap, ap₂, _∙_}
 use mathlib.Core.Bool.{Bool, true, false, not, _&&_}
-use mathlib.Core.List.{List, [], _∷_, _++_, append-nil, append-assoc}
+use mathlib.Core.List.{List, [], _∷_, _++_, append-assoc}
 use native.Mathlib.Omega.{arith}
-use native.Mathlib.Nat.{sub-self, add-zero}
+use native.Mathlib.Nat.{add-zero}
 use native.Mathlib.Numerals.{add-one}
 use borrow.Author.Tests.{eq-eqb, ne-eqb, le-leb, lt-leb}
 use lib.Dec.{eqb, leb}
-use lib.ListN.{length, getD, set, replicate, length-append, length-replicate}
+use lib.ListN.{length, getD, set, replicate, length-append}
 use lib.Seq.{set-at}
 use Rattle.elimination.specs.declared.Divisor.{Divisor}
 use Rattle.elimination.specs.Lookup.{Signs, occursWith, occursAt, overlapsTaken, takenFlags, countTrue, lookupScore, signAt, rowsSigns}
 use Rattle.elimination.specs.Rows.{Row}
-use Rattle.elimination.proofs.LookupFlags.{padded-flag}
+use Rattle.elimination.proofs.LookupFlags.{padded-flag, padded-count, flags-to-limit}
 use Rattle.eliminate.specs.Signs.{tableSigns, rowsSignsFrom}
+use Rattle.eliminate.proofs.SignTable.{look-out}
 
 -- ---- the occurrence with a co-divisor: both signs were looked up
 
@@ -86,9 +87,16 @@ module _ (positions : ℕ) (signs : Signs) (d : Divisor) where
   unfolding padded takenFlags
   padded-start = let e : positions ≡ positions - 0 = omega arith in ap (λ (n : ℕ). replicate n false) e
 
-  pub padded-end : padded positions signs d positions ≡ takenFlags signs d positions
-  unfolding padded
-  padded-end = rw (sub-self positions) (append-nil (takenFlags signs d positions))
+  -- past a limit at which the higher exponent reaches the positions nothing is taken
+  module _ (none : (symbol exponent : ℕ) → positions ≤ exponent → signs symbol exponent ≡ 0) (limit : ℕ) (inside : limit ≤ positions)
+      (reach : positions ≤ limit + max (d .ea) (d .eb)) where
+    pub padded-limit : padded positions signs d limit ≡ takenFlags signs d positions
+    unfolding padded
+    padded-limit = sym (flags-to-limit positions signs d none limit inside reach)
+
+    pub count-limit : countTrue (takenFlags signs d limit) ≡ countTrue (takenFlags signs d positions)
+    count-limit =
+        sym (padded-count (takenFlags signs d limit) (positions - limit)) ∙ ap countTrue (sym (flags-to-limit positions signs d none limit inside reach))
 
   overlap-padded : (c : ℕ) → overlapsTaken d (padded positions signs d c) c ≡ overlapsTaken d (takenFlags signs d c) c
   unfolding padded
@@ -121,6 +129,9 @@ unfolding countTrue
 count-most [] = omega arith
 count-most (true ∷ flags) = omega (arith, count-most flags)
 count-most (false ∷ flags) = omega (arith, count-most flags)
+
+pub table-none : (symbols positions : ℕ) (table : List ℕ) (i symbol exponent : ℕ) → positions ≤ exponent → tableSigns symbols positions table i symbol exponent ≡ 0
+table-none symbols positions table i symbol exponent h = look-out symbols positions table i symbol exponent (λ s e. omega arith)
 
 module _ (symbols positions : ℕ) (table : List ℕ) (d : Divisor) (i : ℕ) where
   pub row-most : (n : ℕ) → countTrue (takenFlags (tableSigns symbols positions table i) d n) ≤ n

@@ -1,5 +1,6 @@
 // Document 01, "Digits and terms": a row of terms, by value. Rests on `term` and `digits`.
 // The fields are private, so that nothing makes a row but its methods.
+use digits::POSITIONS;
 use term::Term;
 ghost use mathlib.Core.Path.{_≡_};
 ghost use mathlib.Core.List.{[], _∷_, _++_};
@@ -71,7 +72,7 @@ impl Row {
         let ds = digits::digits(z);
         let mut row = self;
         let mut i = 0;
-        while i < 16 {
+        while i < POSITIONS {
             let d = ds[i];
             row = row.with_digit(column, i, d);
             i += 1;

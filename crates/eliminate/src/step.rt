@@ -5,11 +5,12 @@ use crate::rows::Rows;
 use crate::score;
 use crate::signs;
 use crate::signs::SIZE;
+use digits::POSITIONS;
 use elimination::Divisor;
 use term::Term;
 ghost use mathlib.Core.Path.{_≡_};
 ghost use mathlib.Core.List.{_++_};
-ghost use Prim.Native.Nat.{_+_, _<_, _≤_};
+ghost use Prim.Native.Nat.{_<_, _≤_};
 ghost use lib.ListN.{length};
 ghost use Rattle.elimination.specs.Lookup.{partAs, partOfTaken, keptTerms, lookupTerm, lookupTermsFrom, Proper};
 ghost use Rattle.elimination.specs.Elimination.{rowsAfter};
@@ -24,7 +25,7 @@ pub struct Stepped {
     pub replaced: usize,
 }
 
-fn part_as(symbol: u16, exponent: u8, flags: [bool; 16], t: Term) -> bool
+fn part_as(symbol: u16, exponent: u8, flags: [bool; POSITIONS], t: Term) -> bool
     requires { ⌜ t .exponent < 16 ⌝ }
     ensures { λ r. ⌜ r ≡ partAs symbol exponent flags t ⌝ }
 {
@@ -40,7 +41,7 @@ fn part_as(symbol: u16, exponent: u8, flags: [bool; 16], t: Term) -> bool
 }
 
 // A term is part of a taken occurrence, as its first or its second term.
-fn part_of_taken(d: Divisor, flags: [bool; 16], t: Term) -> bool
+fn part_of_taken(d: Divisor, flags: [bool; POSITIONS], t: Term) -> bool
     requires { ⌜ t .exponent < 16 ⌝ }
     ensures { λ r. ⌜ r ≡ partOfTaken d flags t ⌝ }
 {
@@ -50,7 +51,7 @@ fn part_of_taken(d: Divisor, flags: [bool; 16], t: Term) -> bool
     part_as(d.b, d.eb, flags, t)
 }
 
-fn kept(d: Divisor, flags: [bool; 16], row: Row) -> Row
+fn kept(d: Divisor, flags: [bool; POSITIONS], row: Row) -> Row
     requires { ⌜ Within 260 16 (rowTerms row) × (length (rowTerms row) ≤ 64) ⌝ }
     ensures { λ r. ⌜ rowTerms r ≡ keptTerms d flags (rowTerms row) ⌝ }
 {
@@ -81,7 +82,7 @@ fn with_new_terms(
     i: usize,
     symbol: u16,
     d: Divisor,
-    flags: [bool; 16],
+    flags: [bool; POSITIONS],
     row: Row,
 ) -> Row
     requires { ⌜ (i < 8) × (symbol ≤ 259) × (length (rowTerms row ++ lookupTermsFrom symbol (tableSigns 260 16 (now signs) i) d 0 flags) ≤ 64) ⌝ }
@@ -89,7 +90,7 @@ fn with_new_terms(
 {
     let mut out = row;
     let mut c = 0;
-    while c < 16 {
+    while c < POSITIONS {
         if flags[c] {
             let t = new_term(signs, i, symbol, d, c);
             out = out.push(t);

@@ -1,9 +1,9 @@
 -- `eliminate::pick::best_in_row` meets its contract. Assumes nothing.
-use Prim.Native.Nat.{_+_, _-_, _≤_, _<_}
+use Prim.Native.Nat.{_-_, _≤_}
 use mathlib.Core.Path.{_≡_, refl, sym, _∙_}
 use native.Mathlib.Omega.{arith}
 use borrow.Author.Needs.{needs}
-use lib.ListN.{length, drop}
+use lib.ListN.{drop}
 use Rattle.elimination.specs.Divisors.{pairsOf}
 use Rattle.elimination.specs.Elimination.{before}
 use Rattle.elimination.specs.Lookup.{lookupBest}

@@ -1,10 +1,10 @@
 -- `eliminate::pick::best_in_rows` meets its contract. Assumes nothing.
-use Prim.Native.Nat.{ℕ, _+_, _-_, _≤_, _<_}
-use mathlib.Core.Path.{_≡_, refl, ap, sym, _∙_}
+use Prim.Native.Nat.{ℕ, _-_, _≤_}
+use mathlib.Core.Path.{_≡_, ap, sym, _∙_}
 use mathlib.Core.List.{[]}
 use native.Mathlib.Omega.{arith}
 use borrow.Author.Needs.{needs}
-use lib.ListN.{length, drop, getD}
+use lib.ListN.{drop, getD}
 use Rattle.elimination.specs.Elimination.{before, noPairs, allPairs}
 use Rattle.elimination.specs.Lookup.{lookupBest}
 use Rattle.eliminate.specs.State.{rowsTerms}

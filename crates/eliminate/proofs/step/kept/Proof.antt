@@ -1,8 +1,8 @@
 -- `eliminate::step::kept` meets its contract. Assumes nothing.
-use Prim.Native.Nat.{_+_, _-_, _≤_, _<_}
-use mathlib.Core.Path.{_≡_, refl, ap, sym, _∙_}
+use Prim.Native.Nat.{_-_, _≤_}
+use mathlib.Core.Path.{_≡_, ap, sym, _∙_}
 use mathlib.Core.Logic.{⊎-elim}
-use mathlib.Core.List.{List, [], _∷_, _++_}
+use mathlib.Core.List.{[], _∷_, _++_}
 use native.Mathlib.Omega.{arith}
 use borrow.Author.Needs.{needs}
 use borrow.Author.Tests.{not-true, not-false}
@@ -58,7 +58,6 @@ loop-again c =
     let s = h .before .before .before in
     let r = rowTerms (s .args .row) in
     let i = h .loop .i in
-    let t : Term = c .before .before .term .result in
     let part = ap (partOfTaken (s .args .d) (s .args .flags)) (sym (c .before .before .term .ensures)) ∙ sym (c .before .part-of-taken .ensures) in
     ⊎-elim
     (λ w.

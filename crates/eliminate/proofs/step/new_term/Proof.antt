@@ -3,7 +3,6 @@ use mathlib.Core.Path.{ap, _∙_}
 use Prim.Native.Nat.{ℕ}
 use borrow.Author.Needs.{needs}
 use lib.Dec.{eqb}
-use Rattle.term.specs.declared.Term.{Term}
 use Rattle.eliminate.proofs.step.new_term.Statement.{statement}
 use Rattle.eliminate.proofs.step.new_term.Tie as tie
 

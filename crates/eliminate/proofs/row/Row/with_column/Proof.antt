@@ -1,5 +1,5 @@
 -- `eliminate::row::Row::with_column` meets its contract. Assumes nothing.
-use Prim.Native.Nat.{_+_, _-_, _≤_, _<_}
+use Prim.Native.Nat.{_+_, _-_, _≤_}
 use mathlib.Core.Path.{_≡_, refl, ap, sym, _∙_}
 use mathlib.Core.List.{List, [], _∷_, _++_}
 use native.Mathlib.Omega.{arith}
@@ -9,7 +9,6 @@ use lib.IntN.{ℤ, pos}
 use mir.Syntax.{w8}
 use mir.Val.{toZ, ofZ}
 use mir.Facts.{toZ-ofZ}
-use Rattle.term.specs.declared.Term.{Term}
 use Rattle.integers.proofs.Held.{is, held}
 use Rattle.digits.specs.Digits.{digits}
 use Rattle.digits.proofs.Canonic.{digits-length, digits-are}
