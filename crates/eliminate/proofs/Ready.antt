@@ -10,7 +10,7 @@ use lib.IntN.{ℤ}
 use lib.ListN.{length, getD}
 use borrow.Author.Tests.{ltb-false}
 use Rattle.elimination.specs.declared.Divisor.{Divisor}
-use Rattle.elimination.specs.Rows.{Row, WellFormed, EachRow, rowFrom, matrixRows, plainCount}
+use Rattle.elimination.specs.Rows.{Row, Ascending, WellFormed, EachRow, rowFrom, matrixRows, plainCount}
 use Rattle.elimination.specs.Elimination.{Scored, before, noPairs, allPairs, pick, rowAfter, rowsAfter, smallestFirst, eliminate, andThen}
 use Rattle.elimination.specs.Lookup.{Proper, Signs, signAt, rowsSigns, lookupBest, lookupPick, lookupRowAfter}
 use Rattle.elimination.proofs.Order.{each-row, rows-well-formed-after, Columns, matrix-well-formed}
@@ -19,7 +19,7 @@ use Rattle.elimination.proofs.Tests.{by-bool}
 use Rattle.elimination.proofs.Replaced.{length-after}
 use Rattle.elimination.proofs.LookupAfter.{row-after-looked-up}
 use Rattle.elimination.proofs.LookupPick.{pick-looked-up, pick-proper}
-use Rattle.eliminate.specs.State.{AllAscending, Ready}
+use Rattle.eliminate.specs.State.{Ready}
 use Rattle.eliminate.specs.Signs.{Within, Placed, tableSigns, rowsSignsFrom, signTable}
 use Rattle.eliminate.specs.Step.{StepAnswer, stepAnswer, rowAfterBy}
 use Rattle.eliminate.proofs.Members.{member-at}
@@ -31,7 +31,7 @@ unfolding rowAfterBy lookupRowAfter
 by-own-signs positions symbol d r = refl
 
 module _ (symbol : ℕ) (rows : List Row) (ready : Ready symbol rows) where
-  pub ascending : AllAscending rows
+  ascending : (r : Row) → List·Memᴰ r rows → Ascending r
   ascending r m = each-row (WellFormed 16 symbol) rows (ready .well-formed) r m .ascending
 
   module _ (limit : symbol ≤ 259) where

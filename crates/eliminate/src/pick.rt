@@ -12,8 +12,8 @@ ghost use Rattle.elimination.specs.Rows.{Precedes, Ascending};
 ghost use Rattle.elimination.specs.Divisors.{divisorOf, pairsWith, pairsOf};
 ghost use Rattle.elimination.specs.Elimination.{before, better, noPairs, allPairs};
 ghost use Rattle.elimination.specs.Lookup.{lookupScored, lookupBest};
-ghost use Rattle.eliminate.specs.State.{noTerm, rowTerms, rowsTerms, AllAscending};
-ghost use Rattle.eliminate.specs.Signs.{rowsSignsFrom};
+ghost use Rattle.eliminate.specs.State.{noTerm, rowTerms, rowsTerms};
+ghost use Rattle.eliminate.specs.Signs.{Placed, rowsSignsFrom};
 ghost use Rattle.eliminate.specs.Pick.{scoredOf, betterOf};
 
 // A divisor and its score.
@@ -61,6 +61,7 @@ fn divisor_of(t: Term, u: Term) -> Divisor
     }
 }
 
+// The higher score, and of equal scores the first in order.
 fn better(s: Best, t: Best) -> bool
     ensures { λ r. ⌜ r ≡ better before (scoredOf s) (scoredOf t) ⌝ }
 {
@@ -121,6 +122,7 @@ fn best_in_row(signs: &[u8; SIZE], m: usize, row: Row, start: Best) -> Best
     best
 }
 
+// No pairs at all count as a highest score below 2.
 fn no_pairs() -> Best
     ensures { λ r. ⌜ scoredOf r ≡ noPairs ⌝ }
 {
@@ -136,7 +138,7 @@ fn no_pairs() -> Best
 
 // And all pairs of all rows.
 pub fn best_in_rows(signs: &[u8; SIZE], rows: Rows) -> Best
-    requires { ⌜ (length (rowsTerms rows) ≤ 8) × AllAscending (rowsTerms rows) ⌝ }
+    requires { ⌜ (length (rowsTerms rows) ≤ 8) × Placed 260 16 (rowsTerms rows) ⌝ }
     ensures { λ r. ⌜ scoredOf r ≡ lookupBest 16 before (rowsSignsFrom 260 16 (now (signs .entry)) 0 (length (rowsTerms rows))) noPairs (allPairs (rowsTerms rows)) ⌝ }
 {
     let m = rows.m();

@@ -49,6 +49,7 @@ fn overlaps(flags: [bool; POSITIONS], d: Divisor, c: usize) -> bool
     flags[c - eb]
 }
 
+// An occurrence is taken if it overlaps none taken before.
 fn takes(signs: &[u8; SIZE], row: usize, d: Divisor, flags: [bool; POSITIONS], c: usize) -> bool
     requires { ⌜ (row < 8) × (c < 16) ⌝ }
     ensures { λ r. ⌜ r ≡ occursAt (tableSigns 260 16 (now (signs .entry)) row) d c && not (overlapsTaken d flags c) ⌝ }
@@ -71,6 +72,7 @@ fn co_divisors(d: Divisor) -> usize
     0
 }
 
+// The occurrences in a row are visited by ascending co-divisor.
 pub fn taken_in_row(signs: &[u8; SIZE], row: usize, d: Divisor) -> Taken
     requires { ⌜ row < 8 ⌝ }
     ensures { λ r. ⌜ (r .flags ≡ takenFlags (tableSigns 260 16 (now (signs .entry)) row) d 16) × (r .count ≡ countTrue (takenFlags (tableSigns 260 16 (now (signs .entry)) row) d 16)) ⌝ }

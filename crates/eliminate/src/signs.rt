@@ -20,6 +20,7 @@ fn place(row: usize, symbol: u16, exponent: usize) -> usize
     (row * 260 + (symbol as usize)) * 16 + exponent
 }
 
+// No sign anywhere.
 fn blank() -> [u8; SIZE]
     ensures { λ r. ⌜ r ≡ blankSigns 33280 ⌝ }
 {
@@ -69,6 +70,7 @@ fn enter_row(signs: &mut [u8; SIZE], i: usize, row: Row)
     }
 }
 
+// The table of all rows.
 pub fn sign_table(rows: Rows) -> [u8; SIZE]
     requires { ⌜ Placed 260 16 (rowsTerms rows) × (length (rowsTerms rows) ≤ 8) ⌝ }
     ensures { λ r. ⌜ r ≡ signTable 260 16 8 (rowsTerms rows) ⌝ }

@@ -25,6 +25,7 @@ pub struct Stepped {
     pub replaced: usize,
 }
 
+// A term of the symbol, whose exponent is that of a taken co-divisor above the given one.
 fn part_as(symbol: u16, exponent: u8, flags: [bool; POSITIONS], t: Term) -> bool
     requires { ⌜ t .exponent < 16 ⌝ }
     ensures { λ r. ⌜ r ≡ partAs symbol exponent flags t ⌝ }
@@ -51,6 +52,7 @@ fn part_of_taken(d: Divisor, flags: [bool; POSITIONS], t: Term) -> bool
     part_as(d.b, d.eb, flags, t)
 }
 
+// The terms that are part of no taken occurrence.
 fn kept(d: Divisor, flags: [bool; POSITIONS], row: Row) -> Row
     requires { ⌜ Within 260 16 (rowTerms row) × (length (rowTerms row) ≤ 64) ⌝ }
     ensures { λ r. ⌜ rowTerms r ≡ keptTerms d flags (rowTerms row) ⌝ }
@@ -77,6 +79,7 @@ fn new_term(signs: &[u8; SIZE], i: usize, symbol: u16, d: Divisor, c: usize) -> 
     Term::new(symbol, c as u8, sign == 2)
 }
 
+// Each taken pair becomes one term: the new symbol, the co-divisor, the occurrence's sign. The row's index is i.
 fn with_new_terms(
     signs: &[u8; SIZE],
     i: usize,
@@ -100,6 +103,7 @@ fn with_new_terms(
     out
 }
 
+// The new symbol is the largest, so the new terms stand last.
 fn row_after(signs: &[u8; SIZE], i: usize, symbol: u16, d: Divisor, row: Row) -> Row
     requires { ⌜ (i < 8) × (symbol ≤ 259) × Within 260 16 (rowTerms row) × (length (rowTerms row) ≤ 64) × (length (rowAfterBy 16 symbol d (tableSigns 260 16 (now signs) i) (rowTerms row)) ≤ 64) ⌝ }
     ensures { λ r. ⌜ rowTerms r ≡ rowAfterBy 16 symbol d (tableSigns 260 16 (now (signs .entry)) i) (rowTerms row) ⌝ }
@@ -110,6 +114,7 @@ fn row_after(signs: &[u8; SIZE], i: usize, symbol: u16, d: Divisor, row: Row) ->
     with_new_terms(signs, i, symbol, d, flags, rest)
 }
 
+// The rows go into a fresh rows state, one by one.
 fn rows_after(signs: &[u8; SIZE], symbol: u16, d: Divisor, rows: Rows) -> Rows
     requires { ⌜ (now signs ≡ signTable 260 16 8 (rowsTerms rows)) × Ready symbol (rowsTerms rows) × (symbol ≤ 259) × Proper d ⌝ }
     ensures { λ r. ⌜ rowsTerms r ≡ rowsAfter symbol d (rowsTerms rows) ⌝ }

@@ -41,7 +41,7 @@ best-in-row-requires c κs =
     let h = c .before .before in
     let s = h .before .before .before in
     let rows = rowsTerms (s .args .rows) in
-    (omega arith, rw (c .row .ensures) (s .pre .1 (getD rows (h .loop .i) []) (member-at rows (h .loop .i) [] (omega arith))))
+    (omega arith, rw (c .row .ensures) (s .pre .1 (getD rows (h .loop .i) []) (member-at rows (h .loop .i) [] (omega arith)) .0))
 
 add-i : tie.Need-add-i Inv-loop μ-loop
 add-i c = search needs

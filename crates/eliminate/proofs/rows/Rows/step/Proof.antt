@@ -2,7 +2,7 @@
 use native.Mathlib.Omega.{arith}
 use Rattle.eliminate.specs.State.{rowsTerms}
 use Rattle.eliminate.specs.Pick.{scoredOf}
-use Rattle.eliminate.proofs.Ready.{ascending, placed, picked, picked-proper}
+use Rattle.eliminate.proofs.Ready.{placed, picked, picked-proper}
 use Rattle.eliminate.proofs.Stepping.{ended, replaces}
 use Rattle.eliminate.proofs.rows.Rows.step.Statement.{statement}
 use Rattle.eliminate.proofs.rows.Rows.step.Tie as tie
@@ -15,7 +15,7 @@ sign-table-requires c κs =
 best-in-rows-requires : tie.Need-best-in-rows-requires
 best-in-rows-requires c κs =
     let s = c .before .before in
-    (s .pre .0 .few, ascending (s .args .symbol) (rowsTerms (s .args .self)) (s .pre .0))
+    (s .pre .0 .few, placed (s .args .symbol) (rowsTerms (s .args .self)) (s .pre .0) (s .pre .1))
 
 returns : tie.Need-returns
 returns c =
