@@ -5,3 +5,5 @@ pub mod ReadTests
 pub mod RecordLaws
 pub mod HeldLaws
 pub mod NetlistLaws
+pub mod CheckLaws
+pub mod RunLaws
