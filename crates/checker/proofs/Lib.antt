@@ -1,4 +1,4 @@
--- Theorems about reading, checking and running a netlist, lowest first.
+-- Theorems about reading, checking and running a netlist, lowest first; then what the code's proofs rest on.
 pub mod FirstRecords
 pub mod TestLaws
 pub mod Conditions
@@ -12,3 +12,5 @@ pub mod RunLaws
 pub mod RecordLaws
 pub mod HeldLaws
 pub mod NetlistLaws
+pub mod CheckLaws
+pub mod BoardLaws

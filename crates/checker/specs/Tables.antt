@@ -1,17 +1,21 @@
--- Reading a netlist: what the tables lent to the parts of read hold once the first k operations are read, and what these parts return.
+-- Reading, checking and running a netlist: what the tables lent to their parts hold, and what these parts return.
 -- Assumes nothing.
-use Prim.Native.Nat.{ℕ, suc, _+_, _≤_, _<_}
+use Prim.Native.Nat.{ℕ, suc, _+_, _*_, _≤_, _<_}
 use mathlib.Core.Path.{_≡_}
 use mathlib.Core.List.{List}
 use lib.IntN.{ℤ}
 use lib.ListN.{length, take, replicate}
 use Rattle.layout.specs.declared.Head.{Head}
 use Rattle.layout.specs.declared.Operation.{Operation}
-use Rattle.width.specs.Machine.{entryForm, depths}
-use Rattle.width.specs.Width.{width}
-use Rattle.width.specs.Table.{HoldsForms}
+use Rattle.layout.specs.declared.Output.{Output}
+use Rattle.layout.specs.Matrix.{rows, columns, matrix}
+use Rattle.width.specs.Machine.{entryAt, entryForm, depths}
+use Rattle.width.specs.Width.{Samples, width}
+use Rattle.width.specs.Table.{HoldsForms, Small, coefficientAt}
 use Rattle.checker.specs.declared.read.Refusal.{Refusal}
-use Rattle.checker.specs.Read.{Reading, refused, accepted, sampleWidth, maxWidth, headAt, headRefusal, operationAt, operationRefusal, outputAt, totalsRefusal, readOperations, readOutputs, readNetlist}
+use Rattle.checker.specs.Read.{Reading, refused, accepted, sampleWidth, maxWidth, maxShift, headAt, headRefusal, operationAt, operationRefusal, outputAt, totalsRefusal, readOperations, readOutputs, readNetlist}
+use Rattle.checker.specs.declared.CheckAnswer.{CheckAnswer}
+use Rattle.checker.specs.Check.{rowsAnswer}
 use Rattle.checker.specs.Tests.{firstRecords, operationsIn, outputsIn, totalsPlace, netlistIn}
 
 -- a table of k places that all hold x
@@ -79,3 +83,33 @@ pub record NetlistHeld (bytes : List ℕ) (forms : List ℤ) : Type 0 where
 pub record RecordsRead (bytes : List ℕ) (r : Refusal) (forms : List ℤ) : Type 0 where
   pub answer : r ≡ refusalOf (readNetlist bytes)
   pub held : r .refusal ≡ 0 → NetlistHeld bytes forms
+
+-- ---- check and run
+
+-- the sizes of the netlist in the bytes are those of the matrix
+pub record SameSizes (matrixBytes : List ℕ) (h : Head) (m n operations : ℕ) : Type 0 where
+  pub rows-read : m ≡ h .m
+  pub columns-read : n ≡ h .n
+  pub operations-read : operations ≡ h .operations
+  pub same-rows : rows matrixBytes ≡ m
+  pub same-columns : columns matrixBytes ≡ n
+
+-- the coefficients of a matrix's row that begins at an index are there, and those of an output's entry are so small that none wraps
+pub record RowReady (matrixBytes : List ℕ) (index n : ℕ) (forms : List ℤ) (o : Output) : Type 0 where
+  pub there : (j : ℕ) → j < n → 7 + 2 * (index + j) < length matrixBytes
+  pub small : (j : ℕ) → j < n → Small (coefficientAt forms (o .symbol) j) (o .shift)
+
+-- 14: the matrix's rows against the outputs of the netlist in the bytes
+abbrev pub rowsMatched : List ℕ → List ℕ → CheckAnswer
+rowsMatched matrixBytes bytes = rowsAnswer (headAt bytes .n) (operationsIn bytes) 0 (outputsIn bytes) (matrix matrixBytes)
+
+-- the table begins with the samples, which are of 16 bits
+pub record SamplesHeld (samples values : List ℤ) : Type 0 where
+  pub room : length values ≡ 512
+  pub held : take (length samples) values ≡ samples
+  pub of-width : Samples sampleWidth (length samples) samples
+
+-- board values by symbol, so small that no output wraps
+pub record BoardReady (bytes : List ℕ) (values : List ℤ) : Type 0 where
+  pub room : length values ≡ 512
+  pub small : (symbol shift : ℕ) → symbol < headAt bytes .n + headAt bytes .operations → shift ≤ maxShift → Small (entryAt values symbol) shift

@@ -1,6 +1,8 @@
 // Document 01, "Reading, checking, running": read, check and run. Rests on layout and width alone, and sees nothing of the elimination.
 
 pub mod read; // read.rt: reading a netlist
+pub mod check; // check.rt: checking a netlist against a matrix
+pub mod run; // run.rt: running a netlist on samples
 
 // What read returns: a refusal and its place, or m, n, operations and depth.
 pub struct ReadAnswer {

@@ -1,0 +1,15 @@
+-- `checker::run::blank_values` meets its contract. Assumes nothing.
+use mathlib.Core.Path.{refl}
+use Rattle.checker.specs.Tables.{filled}
+use Rattle.checker.proofs.run.blank_values.Statement.{statement}
+use Rattle.checker.proofs.run.blank_values.Tie as tie
+
+returns : tie.Need-returns
+unfolding filled
+returns c = refl
+
+pub blank-values-spec : {M : Type 1} → statement M
+blank-values-spec =
+    tie.close
+    (tie.spec
+    returns)

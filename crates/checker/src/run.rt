@@ -1,0 +1,105 @@
+// Document 01, "Reading, checking, running" and "Why a record was declined": running a netlist on samples, refusals 7 to 12, 15, 16.
+use super::RunAnswer;
+ghost use mathlib.Core.Path.{_≡_};
+ghost use mathlib.Core.List.{map};
+ghost use Prim.Native.Nat.{_+_, _≤_, _<_};
+ghost use lib.IntN.{pos};
+ghost use lib.ListN.{length, take};
+ghost use Rattle.width.specs.Machine.{machine, outputValue};
+ghost use Rattle.width.specs.Width.{Samples};
+ghost use Rattle.checker.specs.Read.{headAt};
+ghost use Rattle.checker.specs.Run.{runAnswer, runOutputs};
+ghost use Rattle.checker.specs.Tests.{operationsIn, outputsIn};
+ghost use Rattle.checker.specs.Tables.{filled, NetlistRead, SamplesHeld, BoardReady};
+
+// A table for the values of the board machine.
+fn blank_values() -> [i64; 512]
+    ensures { λ r. ⌜ r ≡ filled 512 (pos 0) ⌝ }
+{
+    [0; 512]
+}
+
+// The samples, the first values of the board machine.
+fn start_values(samples: &[i16], values: &mut [i64; 512])
+    requires { ⌜ (length (now samples) ≤ 8) × (length (now values) ≡ 512) ⌝ }
+    ensures { λ r. ⌜ SamplesHeld (now (samples .entry)) (now (values .exit)) ⌝ }
+{
+    let n = samples.len();
+    for j in 0..n {
+        values[j] = samples[j] as i64;
+    }
+}
+
+// The operations in order, each value at its symbol.
+fn run_operations(netlist: &[u8], n: usize, operations: usize, values: &mut [i64; 512])
+    requires { ⌜ NetlistRead (now netlist) ⌝ }
+    requires { ⌜ (n ≡ headAt (now netlist) .n) × (operations ≡ headAt (now netlist) .operations) ⌝ }
+    requires { ⌜ (length (now values) ≡ 512) × Samples 16 n (take n (now values)) ⌝ }
+    ensures { λ r. ⌜ (length (now (values .exit)) ≡ 512) × (take (n + operations) (now (values .exit)) ≡ machine (take n (now (values .entry))) (operationsIn (now (netlist .entry)))) ⌝ }
+{
+    for k in 0..operations {
+        let o = super::read::operation_at(netlist, 8 + 12 * k);
+        width::append_value(values, o, n + k);
+    }
+}
+
+// The outputs, from the values of all entries.
+fn fill_outputs(
+    netlist: &[u8],
+    m: usize,
+    operations: usize,
+    values: &[i64; 512],
+    outputs: &mut [i64],
+)
+    requires { ⌜ NetlistRead (now netlist) ⌝ }
+    requires { ⌜ (m ≡ headAt (now netlist) .m) × ((operations ≡ headAt (now netlist) .operations) × (length (now outputs) ≡ m)) ⌝ }
+    requires { ⌜ BoardReady (now netlist) (now values) ⌝ }
+    ensures { λ r. ⌜ now (outputs .exit) ≡ map (outputValue (now (values .entry))) (outputsIn (now (netlist .entry))) ⌝ }
+{
+    for i in 0..m {
+        let o = super::read::output_at(netlist, 8 + 12 * operations + 9 * i);
+        let symbol = o.symbol as usize;
+        let x = values[symbol];
+        let y = width::output_value(o.sign, x, o.shift);
+        outputs[i] = y;
+    }
+}
+
+// The board machine's outputs for a vector of samples, for any bytes; a refusal leaves every output as it was.
+pub fn run(netlist: &[u8], samples: &[i16], outputs: &mut [i64]) -> RunAnswer
+    ensures { λ r. ⌜ r ≡ runAnswer (now (netlist .entry)) (length (now (samples .entry))) (length (now (outputs .entry))) ⌝ }
+    ensures { λ r. ⌜ now (outputs .exit) ≡ runOutputs (now (netlist .entry)) (now (samples .entry)) (now (outputs .entry)) ⌝ }
+{
+    let mut forms = super::read::blank_forms();
+    let mut depths = super::read::blank_depths();
+    let read = super::read::netlist(netlist, &mut forms, &mut depths);
+    if read.refusal != 0 {
+        return RunAnswer {
+            refusal: read.refusal,
+            place: read.place,
+        };
+    }
+    let n = read.n as usize;
+    if samples.len() != n {
+        return RunAnswer {
+            refusal: 15,
+            place: 0,
+        };
+    }
+    let m = read.m as usize;
+    if outputs.len() != m {
+        return RunAnswer {
+            refusal: 16,
+            place: 0,
+        };
+    }
+    let operations = read.operations as usize;
+    let mut values = blank_values();
+    start_values(samples, &mut values);
+    run_operations(netlist, n, operations, &mut values);
+    fill_outputs(netlist, m, operations, &values, outputs);
+    RunAnswer {
+        refusal: 0,
+        place: 0,
+    }
+}
