@@ -11,8 +11,6 @@ use lib.ListN.{length, getD, set, take, drop, drop-of-length-le, length-set, len
 use lib.Seq.{sets, sets-eq, drop-cons, getD-take, take-suc, take-suc-set}
 use lib.Signed.{mag}
 use borrow.Author.Tests.{eq-eqb, ne-eqb}
-use Rattle.layout.specs.declared.Operation.{Operation}
-use Rattle.layout.specs.declared.Output.{Output}
 use Rattle.layout.specs.Records.{Netlist}
 use Rattle.width.specs.Machine.{entryAt, operationValue, machine, outputValue, entryForm}
 use Rattle.width.specs.Width.{Within, Samples, width}
@@ -21,14 +19,13 @@ use Rattle.width.proofs.MachineLaws.{output-same}
 use Rattle.width.proofs.FormLaws.{entry-form-keeps}
 use Rattle.width.proofs.WidthLaws.{between-within, positive-is, negative-is}
 use Rattle.width.proofs.BoundLaws.{entry-small}
-use Rattle.width.proofs.TableLaws.{sets-none, value-appended}
+use Rattle.width.proofs.TableLaws.{value-appended}
 use Rattle.checker.specs.declared.ReadAnswer.{ReadAnswer}
 use Rattle.checker.specs.declared.RunAnswer.{RunAnswer}
 use Rattle.checker.specs.Read.{Reading, refused, accepted, readNetlist, readRefused, readAccepted, readAnswer, headAt, operationAt, outputAt}
-use Rattle.checker.specs.Exact.{OperationLimits, OutputLimits}
 use Rattle.checker.specs.Run.{ran, countsAnswer, runAnswer, netlistOutputs, runOutputs}
-use Rattle.checker.specs.Tests.{firstRecords, operationsIn, outputsIn, netlistIn}
-use Rattle.checker.specs.Tables.{operationsBefore, NetlistRead, BoardReady}
+use Rattle.checker.specs.Tests.{firstRecords, operationsIn, outputsIn}
+use Rattle.checker.specs.Tables.{operationsBefore, NetlistRead}
 use Rattle.checker.proofs.FirstRecords.{length-first}
 use Rattle.checker.proofs.CheckLaws.{first-at}
 use Rattle.checker.proofs.NetlistLaws.{head-limits, operation-there, output-there}

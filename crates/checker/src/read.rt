@@ -9,7 +9,7 @@ ghost use Prim.Native.Nat.{_+_, _*_, _≤_, _<_, max};
 ghost use lib.IntN.{pos};
 ghost use lib.ListN.{length, take};
 ghost use Rattle.width.specs.Machine.{largest};
-ghost use Rattle.checker.specs.Read.{recordRefusal, headInRange, headRefusal, headAt, operationInRange, operationRefusal, outputInRange, outputRefusal, totalsRefusal, widthRight, readAnswer};
+ghost use Rattle.checker.specs.Read.{recordRefusal, headInRange, headRefusal, headAt, operationInRange, outputInRange, outputRefusal, totalsRefusal, widthRight, readAnswer};
 ghost use Rattle.layout.specs.Step.{payloadAt};
 ghost use Rattle.layout.specs.Records.{operationOf, outputOf, totalsOf};
 ghost use Rattle.checker.specs.Tables.{filled, operationsBefore, FormsHeld, DepthsHeld, OperationRead, OperationsRead, OutputsRead, HeadRead, NetlistHeld, RecordsRead};
@@ -318,10 +318,10 @@ fn totals_refusal(bytes: &[u8], place: usize, head: Head, depths: &[u16; 512]) -
     }
     let symbols = head.n as usize + head.operations as usize;
     let depth = largest_depth(depths, symbols);
-    if totals.depth != depth {
-        return 11;
+    if totals.depth == depth {
+        return 0;
     }
-    0
+    11
 }
 
 // ---- the whole netlist

@@ -2,7 +2,7 @@
 use super::RunAnswer;
 ghost use mathlib.Core.Path.{_≡_};
 ghost use mathlib.Core.List.{map};
-ghost use Prim.Native.Nat.{_+_, _≤_, _<_};
+ghost use Prim.Native.Nat.{_+_, _≤_};
 ghost use lib.IntN.{pos};
 ghost use lib.ListN.{length, take};
 ghost use Rattle.width.specs.Machine.{machine, outputValue};
@@ -80,13 +80,13 @@ pub fn run(netlist: &[u8], samples: &[i16], outputs: &mut [i64]) -> RunAnswer
         };
     }
     let n = read.n as usize;
+    let m = read.m as usize;
     if samples.len() != n {
         return RunAnswer {
             refusal: 15,
             place: 0,
         };
     }
-    let m = read.m as usize;
     if outputs.len() != m {
         return RunAnswer {
             refusal: 16,

@@ -3,11 +3,10 @@ use mathlib.Core.Path.{_≡_, sym, ap, _∙_, subst}
 use Prim.Native.Nat.{ℕ, _+_, _*_}
 use mathlib.Core.List.{List}
 use Rattle.layout.specs.declared.Head.{Head}
-use Rattle.layout.specs.declared.Totals.{Totals}
 use Rattle.layout.specs.Records.{totalsOf}
 use Rattle.layout.specs.Step.{payloadAt}
 use Rattle.checker.specs.declared.ReadAnswer.{ReadAnswer}
-use Rattle.checker.specs.Read.{recordRefusal, headAt, headRefusal, readNetlist, totalsAt}
+use Rattle.checker.specs.Read.{recordRefusal, headAt, headRefusal, readNetlist}
 use Rattle.checker.specs.Tests.{operationsIn, totalsPlace, netlistIn}
 use Rattle.checker.specs.Tables.{NetlistHeld}
 use Rattle.checker.proofs.RecordLaws.{head-due, stop-answer, totals-due}

@@ -1,6 +1,6 @@
 -- `checker::read::output_refusal` meets its contract. Assumes nothing.
-use mathlib.Core.Path.{_≡_, sym, ap, ap₂, _∙_, subst}
-use Prim.Native.Nat.{ℕ, _+_, _≤_, _<_}
+use mathlib.Core.Path.{_≡_, sym, ap, ap₂, _∙_}
+use Prim.Native.Nat.{ℕ, _+_}
 use mathlib.Core.Bool.{true}
 use mathlib.Core.List.{List}
 use native.Mathlib.Omega.{arith}
@@ -12,7 +12,7 @@ use Rattle.width.specs.Width.{width}
 use Rattle.width.specs.Table.{outputRow}
 use Rattle.checker.specs.Read.{recordRefusal, operationAt, outputPlace, outputAt, outputInRange, outputWidth, widthRight}
 use Rattle.checker.specs.Exact.{OutputLimits}
-use Rattle.checker.specs.Tables.{operationsBefore, FormsHeld}
+use Rattle.checker.specs.Tables.{operationsBefore}
 use Rattle.checker.proofs.FirstRecords.{length-first}
 use Rattle.checker.proofs.Conditions.{output-says}
 use Rattle.checker.proofs.RecordLaws.{output-stops, output-outside, output-wide, output-accepted}

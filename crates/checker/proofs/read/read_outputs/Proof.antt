@@ -1,11 +1,10 @@
 -- `checker::read::read_outputs` meets its contract. What is left to read is the outputs from i on. Assumes nothing.
 use mathlib.Core.Path.{_≡_, sym, ap, _∙_}
-use Prim.Native.Nat.{ℕ, suc, _-_, _≤_}
+use Prim.Native.Nat.{ℕ, _-_, _≤_}
 use mathlib.Core.List.{List, []}
 use native.Mathlib.Omega.{arith}
 use native.Mathlib.Numerals.{add-one}
 use lib.ListN.{length}
-use Rattle.layout.specs.declared.Operation.{Operation}
 use Rattle.layout.specs.declared.Output.{Output}
 use Rattle.checker.specs.Read.{Reading, refused, accepted, readRecords, operationAt, outputPlace, outputAt, outputRefusal}
 use Rattle.checker.specs.Tests.{firstRecords}

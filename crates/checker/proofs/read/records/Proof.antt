@@ -8,7 +8,7 @@ use Rattle.layout.specs.declared.Head.{Head}
 use Rattle.checker.specs.Read.{refused, accepted, headAt, headRefusal, readOperations, readOutputs, readNetlist, totalsRefusal}
 use Rattle.checker.specs.Exact.{HeadLimits}
 use Rattle.checker.specs.Tests.{operationsIn, outputsIn, totalsPlace, netlistIn}
-use Rattle.checker.specs.Tables.{operationsBefore, FormsHeld, DepthsHeld, OperationsRead, OutputsRead, refusalOf}
+use Rattle.checker.specs.Tables.{operationsBefore, FormsHeld, OperationsRead, OutputsRead, refusalOf}
 use Rattle.checker.proofs.RecordLaws.{head-due, stop-answer}
 use Rattle.checker.proofs.HeldLaws.{forms-started, depths-started}
 use Rattle.checker.proofs.NetlistLaws.{declined, operations-decline, outputs-decline, totals-decline, leftover, all-accepted, place-is}

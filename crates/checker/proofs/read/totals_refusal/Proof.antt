@@ -1,8 +1,7 @@
 -- `checker::read::totals_refusal` meets its contract. Assumes nothing.
 use mathlib.Core.Path.{_≡_, sym, ap, _∙_}
-use Prim.Native.Nat.{ℕ, _+_}
+use Prim.Native.Nat.{ℕ}
 use mathlib.Core.List.{List}
-use native.Mathlib.Omega.{arith}
 use Rattle.layout.specs.declared.Head.{Head}
 use Rattle.layout.specs.declared.Operation.{Operation}
 use Rattle.layout.specs.declared.Totals.{Totals}
@@ -74,14 +73,14 @@ module _ (c : tie.After-largest-depth) where
 
 returns-3 : tie.Need-returns-3
 returns-3 c = let e = c .before .before in let S = s (d e) in
-    totals-differ (b S) (place S) (h S) (os S) (due (d e)) (λ t. c .if3 .taken (depth-is (d e) ∙ t .deepest ∙ sym (deepest e)))
+    totals-accepted (b S) (place S) (h S) (os S) (due (d e)) (record {
+      count = sym (count-is (d e)) ∙ c .before .before .before .before .before .if2 .left;
+      deepest = sym (depth-is (d e)) ∙ c .if3 .taken ∙ deepest e;
+    })
 
 returns-4 : tie.Need-returns-4
 returns-4 c = let e = c .before .before in let S = s (d e) in
-    totals-accepted (b S) (place S) (h S) (os S) (due (d e)) (record {
-      count = sym (count-is (d e)) ∙ c .before .before .before .before .before .if2 .left;
-      deepest = sym (depth-is (d e)) ∙ c .if3 .left ∙ deepest e;
-    })
+    totals-differ (b S) (place S) (h S) (os S) (due (d e)) (λ t. c .if3 .left (depth-is (d e) ∙ t .deepest ∙ sym (deepest e)))
 
 pub totals-refusal-spec : {M : Type 1} → statement M
 totals-refusal-spec =

@@ -1,6 +1,6 @@
 -- `checker::run::run` meets its contract. Assumes nothing.
 use mathlib.Core.Path.{_≡_, sym, ap, _∙_, subst}
-use Prim.Native.Nat.{ℕ, _+_, _≤_, _<_}
+use Prim.Native.Nat.{ℕ, _+_}
 use mathlib.Core.List.{List}
 use native.Mathlib.Omega.{arith}
 use lib.IntN.{ℤ, pos}
@@ -69,15 +69,15 @@ module _ (c : tie.Else1) where
 cast-n : tie.Need-cast-n
 cast-n c = search needs
 
-returns-2 : tie.Need-returns-2
-returns-2 c = let e = c .before .before in let D = d e in samples-differ (b D) (xs D) (outs D) (netlistIn (b D)) (reads e) (λ z. c .if2 .taken (z ∙ sym (n-is e)))
-
 cast-m : tie.Need-cast-m
 cast-m c = search needs
 
+returns-2 : tie.Need-returns-2
+returns-2 c = let e = c .before .before .before in let D = d e in samples-differ (b D) (xs D) (outs D) (netlistIn (b D)) (reads e) (λ z. c .if2 .taken (z ∙ sym (n-is e)))
+
 returns-3 : tie.Need-returns-3
 returns-3 c = let e = c .before .before .before .before in let D = d e in
-    outputs-differ (b D) (xs D) (outs D) (netlistIn (b D)) (reads e) (c .before .before .if2 .left ∙ n-is e) (λ z. c .if3 .taken (z ∙ sym (m-is e)))
+    outputs-differ (b D) (xs D) (outs D) (netlistIn (b D)) (reads e) (c .before .if2 .left ∙ n-is e) (λ z. c .if3 .taken (z ∙ sym (m-is e)))
 
 cast-operations : tie.Need-cast-operations
 cast-operations c = search needs
@@ -87,7 +87,7 @@ blank-values-requires c κs = search needs
 
 start-values-requires : tie.Need-start-values-requires
 start-values-requires c κs = let v = c .before in let x = v .before .before in let e = x .before .before .before .before in
-    (omega (arith, x .before .before .if2 .left, n-is e, head-limits (b (d e)) (N e) .columns-most), ap (λ (l : List ℤ). length l) (v .blank-values .ensures) ∙ length-filled 512 (pos 0))
+    (omega (arith, x .before .if2 .left, n-is e, head-limits (b (d e)) (N e) .columns-most), ap (λ (l : List ℤ). length l) (v .blank-values .ensures) ∙ length-filled 512 (pos 0))
 
 -- the samples are in the table
 module _ (c : tie.After-start-values) where
@@ -104,7 +104,7 @@ module _ (c : tie.After-start-values) where
   values = c .start-values .last .1 .0
 
   count : length (xs (d e)) ≡ n
-  count = x .before .before .if2 .left
+  count = x .before .if2 .left
 
   started : take n values ≡ xs (d e)
   started = ap (λ (k : ℕ). take k values) (sym count) ∙ c .start-values .ensures .held
@@ -162,8 +162,8 @@ run-spec =
     netlist-requires
     returns
     cast-n
-    returns-2
     cast-m
+    returns-2
     returns-3
     cast-operations
     blank-values-requires
