@@ -1,4 +1,5 @@
--- What a step needs of rows gives what its parts need, and the rows after it have it again.
+-- What a step needs of rows gives what its parts need; the rows of a matrix have it, and the rows after a step have it again. Elimination
+-- ends or goes on as the step says.
 -- Assumes nothing.
 use Prim.Native.Nat.{ℕ, suc, _≤_, _<_}
 use mathlib.Core.Path.{_≡_, refl, ap, _∙_}
