@@ -1,82 +1,83 @@
 -- `listing::write_counts` meets its contract. Assumes nothing.
+use mathlib.Core.Path.{refl}
 use native.Mathlib.Omega.{arith}
+use lib.ListN.{length-take, length-drop}
 use Rattle.listing.proofs.Lines.{counts-parts}
 use Rattle.listing.proofs.Wrote.{wrote-as, wrote-more}
-use borrow.Author.Needs.{needs}
 use Rattle.listing.proofs.write_counts.Statement.{statement}
 use Rattle.listing.proofs.write_counts.Tie as tie
 
 slice-aggregate-write-pair : tie.Need-slice-aggregate-write-pair
-slice-aggregate-write-pair c = search needs
+slice-aggregate-write-pair c = refl
 
 slice-aggregate-write-pair-2 : tie.Need-slice-aggregate-write-pair-2
-slice-aggregate-write-pair-2 c = search needs
+slice-aggregate-write-pair-2 c = refl
 
 write-pair-requires : tie.Need-write-pair-requires
-write-pair-requires c κs = search needs
+write-pair-requires c κs = omega arith
 
 slice-aggregate-write-pair-3 : tie.Need-slice-aggregate-write-pair-3
-slice-aggregate-write-pair-3 c = search needs
+slice-aggregate-write-pair-3 c = refl
 
 slice-aggregate-write-pair-4 : tie.Need-slice-aggregate-write-pair-4
-slice-aggregate-write-pair-4 c = search needs
+slice-aggregate-write-pair-4 c = refl
 
 sub-write-pair : tie.Need-sub-write-pair
-sub-write-pair c = search needs
+sub-write-pair c = omega arith
 
 part-write-pair-start : tie.Need-part-write-pair-start
-part-write-pair-start c = search needs
+part-write-pair-start c = omega arith
 
 part-write-pair-end : tie.Need-part-write-pair-end
-part-write-pair-end c = search needs
+part-write-pair-end c = omega arith
 
 write-pair-requires-2 : tie.Need-write-pair-requires-2
-write-pair-requires-2 c κs = search needs
+write-pair-requires-2 c κs = simp (length-take, length-drop) (omega arith)
 
 add-operations : tie.Need-add-operations
-add-operations c = search needs
+add-operations c = omega arith
 
 slice-aggregate-write-pair-5 : tie.Need-slice-aggregate-write-pair-5
-slice-aggregate-write-pair-5 c = search needs
+slice-aggregate-write-pair-5 c = refl
 
 slice-aggregate-write-pair-6 : tie.Need-slice-aggregate-write-pair-6
-slice-aggregate-write-pair-6 c = search needs
+slice-aggregate-write-pair-6 c = refl
 
 sub-write-pair-2 : tie.Need-sub-write-pair-2
-sub-write-pair-2 c = search needs
+sub-write-pair-2 c = omega arith
 
 part-write-pair-start-2 : tie.Need-part-write-pair-start-2
-part-write-pair-start-2 c = search needs
+part-write-pair-start-2 c = omega arith
 
 part-write-pair-end-2 : tie.Need-part-write-pair-end-2
-part-write-pair-end-2 c = search needs
+part-write-pair-end-2 c = omega arith
 
 write-pair-requires-3 : tie.Need-write-pair-requires-3
-write-pair-requires-3 c κs = search needs
+write-pair-requires-3 c κs = simp (length-take, length-drop) (omega arith)
 
 add-divisors : tie.Need-add-divisors
-add-divisors c = search needs
+add-divisors c = omega arith
 
 slice-aggregate-write-last : tie.Need-slice-aggregate-write-last
-slice-aggregate-write-last c = search needs
+slice-aggregate-write-last c = refl
 
 sub-write-last : tie.Need-sub-write-last
-sub-write-last c = search needs
+sub-write-last c = omega arith
 
 part-write-last-start : tie.Need-part-write-last-start
-part-write-last-start c = search needs
+part-write-last-start c = omega arith
 
 part-write-last-end : tie.Need-part-write-last-end
-part-write-last-end c = search needs
+part-write-last-end c = omega arith
 
 write-last-requires : tie.Need-write-last-requires
-write-last-requires c κs = search needs
+write-last-requires c κs = simp (length-take, length-drop) (omega arith)
 
 add-result : tie.Need-add-result
-add-result c = search needs
+add-result c = omega arith
 
 same-length : tie.Need-same-length
-same-length c = search needs
+same-length c = omega arith
 
 returns : tie.Need-returns
 returns c =

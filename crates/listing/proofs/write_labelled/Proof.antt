@@ -3,21 +3,20 @@ use native.Mathlib.Omega.{arith}
 use lib.ListN.{length-take, length-drop}
 use Rattle.listing.proofs.Decimal.{length-number}
 use Rattle.listing.proofs.Wrote.{wrote-copy, wrote-more}
-use borrow.Author.Needs.{needs}
 use Rattle.listing.proofs.write_labelled.Statement.{statement}
 use Rattle.listing.proofs.write_labelled.Tie as tie
 
 copy-requires : tie.Need-copy-requires
-copy-requires c κs = search needs
+copy-requires c κs = omega arith
 
 sub-write-number : tie.Need-sub-write-number
-sub-write-number c = search needs
+sub-write-number c = omega arith
 
 part-write-number-start : tie.Need-part-write-number-start
-part-write-number-start c = search needs
+part-write-number-start c = omega arith
 
 part-write-number-end : tie.Need-part-write-number-end
-part-write-number-end c = search needs
+part-write-number-end c = omega arith
 
 write-number-requires : tie.Need-write-number-requires
 write-number-requires c κs =
@@ -31,7 +30,7 @@ add-result c =
     omega (arith, length-number 4 (s .args .value) (omega (arith, s .fits .value)), c .before .before .write-number .ensures .0 .counted)
 
 same-length : tie.Need-same-length
-same-length c = search needs
+same-length c = omega arith
 
 returns : tie.Need-returns
 returns c =

@@ -1,34 +1,35 @@
 -- `listing::write_last` meets its contract. Assumes nothing.
+use mathlib.Core.Path.{refl}
 use native.Mathlib.Omega.{arith}
+use lib.ListN.{length-take, length-drop}
 use Rattle.listing.specs.Listing.{ascii}
 use Rattle.listing.proofs.Wrote.{wrote-copy, wrote-more}
-use borrow.Author.Needs.{needs}
 use Rattle.listing.proofs.write_last.Statement.{statement}
 use Rattle.listing.proofs.write_last.Tie as tie
 
 write-labelled-requires : tie.Need-write-labelled-requires
-write-labelled-requires c κs = search needs
+write-labelled-requires c κs = omega arith
 
 slice-aggregate-copy : tie.Need-slice-aggregate-copy
-slice-aggregate-copy c = search needs
+slice-aggregate-copy c = refl
 
 sub-copy : tie.Need-sub-copy
-sub-copy c = search needs
+sub-copy c = omega arith
 
 part-copy-start : tie.Need-part-copy-start
-part-copy-start c = search needs
+part-copy-start c = omega arith
 
 part-copy-end : tie.Need-part-copy-end
-part-copy-end c = search needs
+part-copy-end c = omega arith
 
 copy-requires : tie.Need-copy-requires
-copy-requires c κs = search needs
+copy-requires c κs = simp (length-take, length-drop) (omega arith)
 
 add-result : tie.Need-add-result
-add-result c = search needs
+add-result c = omega arith
 
 same-length : tie.Need-same-length
-same-length c = search needs
+same-length c = omega arith
 
 returns : tie.Need-returns
 returns c =

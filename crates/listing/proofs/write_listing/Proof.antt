@@ -1,45 +1,45 @@
 -- `listing::write_listing` meets its contract. Assumes nothing.
 use native.Mathlib.Omega.{arith}
+use lib.ListN.{length-take, length-drop}
 use Rattle.listing.proofs.Wrote.{wrote-more}
-use borrow.Author.Needs.{needs}
 use Rattle.listing.proofs.write_listing.Statement.{statement}
 use Rattle.listing.proofs.write_listing.Tie as tie
 
 write-counts-requires : tie.Need-write-counts-requires
-write-counts-requires c κs = search needs
+write-counts-requires c κs = omega arith
 
 sub-write-operations : tie.Need-sub-write-operations
-sub-write-operations c = search needs
+sub-write-operations c = omega arith
 
 part-write-operations-start : tie.Need-part-write-operations-start
-part-write-operations-start c = search needs
+part-write-operations-start c = omega arith
 
 part-write-operations-end : tie.Need-part-write-operations-end
-part-write-operations-end c = search needs
+part-write-operations-end c = omega arith
 
 write-operations-requires : tie.Need-write-operations-requires
-write-operations-requires c κs = search needs
+write-operations-requires c κs = simp (length-take, length-drop) (omega arith)
 
 add-outputs : tie.Need-add-outputs
-add-outputs c = search needs
+add-outputs c = omega arith
 
 sub-write-outputs : tie.Need-sub-write-outputs
-sub-write-outputs c = search needs
+sub-write-outputs c = omega arith
 
 part-write-outputs-start : tie.Need-part-write-outputs-start
-part-write-outputs-start c = search needs
+part-write-outputs-start c = omega arith
 
 part-write-outputs-end : tie.Need-part-write-outputs-end
-part-write-outputs-end c = search needs
+part-write-outputs-end c = omega arith
 
 write-outputs-requires : tie.Need-write-outputs-requires
-write-outputs-requires c κs = search needs
+write-outputs-requires c κs = simp (length-take, length-drop) (omega arith)
 
 add-result : tie.Need-add-result
-add-result c = search needs
+add-result c = omega arith
 
 same-length : tie.Need-same-length
-same-length c = search needs
+same-length c = omega arith
 
 returns : tie.Need-returns
 returns c =

@@ -8,7 +8,6 @@ use lib.ListN.{length, take, drop, set, length-set}
 use Rattle.listing.specs.Decimal.{number}
 use Rattle.listing.proofs.Decimal.{length-number, length-large, some-digit, digit-more, digits-part}
 use Rattle.listing.proofs.Wrote.{wrote-as, wrote-copy}
-use borrow.Author.Needs.{needs}
 use Rattle.listing.proofs.write_number.Statement.{statement}
 use Rattle.listing.proofs.write_number.Tie as tie
 
@@ -23,19 +22,19 @@ loop-holds : tie.Need-loop-holds Inv-loop μ-loop
 loop-holds c = (append-nil _, length-number 19 (c .before .args .value) (omega (arith, c .before .fits .value)), omega arith, refl)
 
 cast-digits : tie.Need-cast-digits Inv-loop μ-loop
-cast-digits c = search needs
+cast-digits c = omega arith
 
 add-digits : tie.Need-add-digits Inv-loop μ-loop
-add-digits c = search needs
+add-digits c = omega arith
 
 array-write-digits : tie.Need-array-write-digits Inv-loop μ-loop
-array-write-digits c = search needs
+array-write-digits c = omega arith
 
 sub-start : tie.Need-sub-start Inv-loop μ-loop
 sub-start c = let l = c .before .loop in omega (arith, length-large (l .rest) (c .loop-test .taken), some-digit (l .rest / 10))
 
 loop-less : tie.Need-loop-less Inv-loop μ-loop
-loop-less c = search needs
+loop-less c = omega arith
 
 loop-again : tie.Need-loop-again Inv-loop μ-loop
 loop-again c =
@@ -50,19 +49,19 @@ loop-again c =
     )
 
 cast-digits-2 : tie.Need-cast-digits-2 Inv-loop μ-loop
-cast-digits-2 c = search needs
+cast-digits-2 c = omega arith
 
 add-digits-2 : tie.Need-add-digits-2 Inv-loop μ-loop
-add-digits-2 c = search needs
+add-digits-2 c = omega arith
 
 array-write-digits-2 : tie.Need-array-write-digits-2 Inv-loop μ-loop
-array-write-digits-2 c = search needs
+array-write-digits-2 c = omega arith
 
 sub-copy : tie.Need-sub-copy Inv-loop μ-loop
-sub-copy c = search needs
+sub-copy c = omega arith
 
 part-copy-start : tie.Need-part-copy-start Inv-loop μ-loop
-part-copy-start c = search needs
+part-copy-start c = omega arith
 
 part-copy-end : tie.Need-part-copy-end Inv-loop μ-loop
 part-copy-end c = simp length-set (omega arith)
@@ -70,18 +69,18 @@ part-copy-end c = simp length-set (omega arith)
 copy-requires : tie.Need-copy-requires Inv-loop μ-loop
 copy-requires c κs =
     let l = c .before .before .before .before .loop in
-    rw (digits-part (c .before .before .before .before .before .before .args .value) (l .rest) (l .start) 20 (l .digits) (l .inv .0) (search needs) (omega arith) (l .inv .3))
+    rw (digits-part (c .before .before .before .before .before .before .args .value) (l .rest) (l .start) 20 (l .digits) (l .inv .0) (omega arith) (omega arith) (l .inv .3))
     (c .before .before .before .before .before .before .pre)
 
 same-length : tie.Need-same-length Inv-loop μ-loop
-same-length c = search needs
+same-length c = omega arith
 
 returns : tie.Need-returns Inv-loop μ-loop
 returns c =
     let s = c .before .before .before .before .before .before .before .before .before in
     let l = c .before .before .before .before .before .before .before .loop in
     let digits = take (20 - l .start) (drop (l .start) (set (l .digits) (l .start) (48 + l .rest))) in
-    let same = digits-part (s .args .value) (l .rest) (l .start) 20 (l .digits) (l .inv .0) (search needs) (omega arith) (l .inv .3) in
+    let same = digits-part (s .args .value) (l .rest) (l .start) 20 (l .digits) (l .inv .0) (omega arith) (omega arith) (l .inv .3) in
     let copied = c .before .before .copy in (
       wrote-as same (wrote-copy (s .args .text .now) digits (copied .last .1 .0) (copied .result) (copied .ensures .0) (copied .ensures .1)),
       omega (arith, copied .ensures .0, ap length same, length-number 19 (s .args .value) (omega (arith, s .fits .value))),

@@ -1,79 +1,80 @@
 -- `listing::write_operation` meets its contract. Assumes nothing.
+use mathlib.Core.Path.{refl}
 use native.Mathlib.Omega.{arith}
+use lib.ListN.{length-take, length-drop}
 use Rattle.listing.proofs.Lines.{operation-parts}
 use Rattle.listing.proofs.Wrote.{wrote-as, wrote-more}
-use borrow.Author.Needs.{needs}
 use Rattle.listing.proofs.write_operation.Statement.{statement}
 use Rattle.listing.proofs.write_operation.Tie as tie
 
 slice-aggregate-write-labelled : tie.Need-slice-aggregate-write-labelled
-slice-aggregate-write-labelled c = search needs
+slice-aggregate-write-labelled c = refl
 
 write-labelled-requires : tie.Need-write-labelled-requires
-write-labelled-requires c κs = search needs
+write-labelled-requires c κs = omega arith
 
 slice-aggregate-write-pair : tie.Need-slice-aggregate-write-pair
-slice-aggregate-write-pair c = search needs
+slice-aggregate-write-pair c = refl
 
 slice-aggregate-write-pair-2 : tie.Need-slice-aggregate-write-pair-2
-slice-aggregate-write-pair-2 c = search needs
+slice-aggregate-write-pair-2 c = refl
 
 cast-write-pair : tie.Need-cast-write-pair
-cast-write-pair c = search needs
+cast-write-pair c = omega arith
 
 sub-write-pair : tie.Need-sub-write-pair
-sub-write-pair c = search needs
+sub-write-pair c = omega arith
 
 part-write-pair-start : tie.Need-part-write-pair-start
-part-write-pair-start c = search needs
+part-write-pair-start c = omega arith
 
 part-write-pair-end : tie.Need-part-write-pair-end
-part-write-pair-end c = search needs
+part-write-pair-end c = omega arith
 
 write-pair-requires : tie.Need-write-pair-requires
-write-pair-requires c κs = search needs
+write-pair-requires c κs = simp (length-take, length-drop) (omega arith)
 
 add-sign : tie.Need-add-sign
-add-sign c = search needs
+add-sign c = omega arith
 
 sub-write-second : tie.Need-sub-write-second
-sub-write-second c = search needs
+sub-write-second c = omega arith
 
 part-write-second-start : tie.Need-part-write-second-start
-part-write-second-start c = search needs
+part-write-second-start c = omega arith
 
 part-write-second-end : tie.Need-part-write-second-end
-part-write-second-end c = search needs
+part-write-second-end c = omega arith
 
 write-second-requires : tie.Need-write-second-requires
-write-second-requires c κs = search needs
+write-second-requires c κs = simp (length-take, length-drop) (omega arith)
 
 add-width : tie.Need-add-width
-add-width c = search needs
+add-width c = omega arith
 
 slice-aggregate-write-last : tie.Need-slice-aggregate-write-last
-slice-aggregate-write-last c = search needs
+slice-aggregate-write-last c = refl
 
 cast-write-last : tie.Need-cast-write-last
-cast-write-last c = search needs
+cast-write-last c = omega arith
 
 sub-write-last : tie.Need-sub-write-last
-sub-write-last c = search needs
+sub-write-last c = omega arith
 
 part-write-last-start : tie.Need-part-write-last-start
-part-write-last-start c = search needs
+part-write-last-start c = omega arith
 
 part-write-last-end : tie.Need-part-write-last-end
-part-write-last-end c = search needs
+part-write-last-end c = omega arith
 
 write-last-requires : tie.Need-write-last-requires
-write-last-requires c κs = search needs
+write-last-requires c κs = simp (length-take, length-drop) (omega arith)
 
 add-result : tie.Need-add-result
-add-result c = search needs
+add-result c = omega arith
 
 same-length : tie.Need-same-length
-same-length c = search needs
+same-length c = omega arith
 
 returns : tie.Need-returns
 returns c =

@@ -2,12 +2,11 @@
 use Prim.Native.Nat.{ℕ, _+_, _*_, _-_, _≤_}
 use mathlib.Core.Path.{_≡_, refl, ap, _∙_}
 use native.Mathlib.Omega.{arith}
-use lib.ListN.{length, take, drop}
+use lib.ListN.{length-take, length-drop, length, take, drop}
 use Rattle.layout.specs.Records.{operationOf}
 use Rattle.listing.specs.Listing.{lines, operationLine}
 use Rattle.listing.specs.Records.{recordsFrom, operationsIn}
 use Rattle.listing.proofs.Listed.{Listed, listed-start, listed-more, listed-end}
-use borrow.Author.Needs.{needs}
 use Rattle.listing.proofs.write_operations.Statement.{statement}
 use Rattle.listing.proofs.write_operations.Tie as tie
 
@@ -22,7 +21,7 @@ abbrev μ-loop : tie.MeasureT-loop
 μ-loop inputs operations netlist text₀ end symbol₀ place₀ at₀ text symbol place at = end - symbol
 
 add-end : tie.Need-add-end Inv-loop μ-loop
-add-end c = search needs
+add-end c = omega arith
 
 loop-holds : tie.Need-loop-holds Inv-loop μ-loop
 loop-holds c =
@@ -36,43 +35,43 @@ loop-holds c =
     )
 
 add-payload : tie.Need-add-payload Inv-loop μ-loop
-add-payload c = search needs
+add-payload c = omega arith
 
 add-place : tie.Need-add-place Inv-loop μ-loop
-add-place c = search needs
+add-place c = omega arith
 
 sub-read-operation : tie.Need-sub-read-operation Inv-loop μ-loop
-sub-read-operation c = search needs
+sub-read-operation c = omega arith
 
 part-read-operation-start : tie.Need-part-read-operation-start Inv-loop μ-loop
-part-read-operation-start c = search needs
+part-read-operation-start c = omega arith
 
 part-read-operation-end : tie.Need-part-read-operation-end Inv-loop μ-loop
-part-read-operation-end c = search needs
+part-read-operation-end c = omega arith
 
 read-operation-requires : tie.Need-read-operation-requires Inv-loop μ-loop
-read-operation-requires c κs = search needs
+read-operation-requires c κs = simp (length-take, length-drop) (omega arith)
 
 sub-write-operation : tie.Need-sub-write-operation Inv-loop μ-loop
-sub-write-operation c = search needs
+sub-write-operation c = omega arith
 
 part-write-operation-start : tie.Need-part-write-operation-start Inv-loop μ-loop
-part-write-operation-start c = search needs
+part-write-operation-start c = omega arith
 
 part-write-operation-end : tie.Need-part-write-operation-end Inv-loop μ-loop
-part-write-operation-end c = search needs
+part-write-operation-end c = omega arith
 
 write-operation-requires : tie.Need-write-operation-requires Inv-loop μ-loop
-write-operation-requires c κs = search needs
+write-operation-requires c κs = simp (length-take, length-drop) (omega arith)
 
 add-at : tie.Need-add-at Inv-loop μ-loop
-add-at c = search needs
+add-at c = omega arith
 
 add-symbol : tie.Need-add-symbol Inv-loop μ-loop
-add-symbol c = search needs
+add-symbol c = omega arith
 
 loop-less : tie.Need-loop-less Inv-loop μ-loop
-loop-less c = search needs
+loop-less c = omega arith
 
 loop-again : tie.Need-loop-again Inv-loop μ-loop
 loop-again c =
@@ -87,11 +86,11 @@ loop-again c =
           refl,
       omega arith,
       omega (arith, wrote .ensures .1),
-      search needs,
+      omega arith,
     )
 
 same-length : tie.Need-same-length Inv-loop μ-loop
-same-length c = search needs
+same-length c = omega arith
 
 returns : tie.Need-returns Inv-loop μ-loop
 returns c =

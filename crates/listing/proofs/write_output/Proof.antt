@@ -1,33 +1,34 @@
 -- `listing::write_output` meets its contract. Assumes nothing.
+use mathlib.Core.Path.{refl}
 use native.Mathlib.Omega.{arith}
+use lib.ListN.{length-take, length-drop}
 use Rattle.listing.proofs.Wrote.{wrote-more}
-use borrow.Author.Needs.{needs}
 use Rattle.listing.proofs.write_output.Statement.{statement}
 use Rattle.listing.proofs.write_output.Tie as tie
 
 slice-aggregate-write-labelled : tie.Need-slice-aggregate-write-labelled
-slice-aggregate-write-labelled c = search needs
+slice-aggregate-write-labelled c = refl
 
 write-labelled-requires : tie.Need-write-labelled-requires
-write-labelled-requires c κs = search needs
+write-labelled-requires c κs = omega arith
 
 sub-write-value : tie.Need-sub-write-value
-sub-write-value c = search needs
+sub-write-value c = omega arith
 
 part-write-value-start : tie.Need-part-write-value-start
-part-write-value-start c = search needs
+part-write-value-start c = omega arith
 
 part-write-value-end : tie.Need-part-write-value-end
-part-write-value-end c = search needs
+part-write-value-end c = omega arith
 
 write-value-requires : tie.Need-write-value-requires
-write-value-requires c κs = search needs
+write-value-requires c κs = simp (length-take, length-drop) (omega arith)
 
 add-result : tie.Need-add-result
-add-result c = search needs
+add-result c = omega arith
 
 same-length : tie.Need-same-length
-same-length c = search needs
+same-length c = omega arith
 
 returns : tie.Need-returns
 returns c =

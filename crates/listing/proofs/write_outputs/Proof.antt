@@ -2,12 +2,11 @@
 use Prim.Native.Nat.{ℕ, _+_, _*_, _-_, _≤_}
 use mathlib.Core.Path.{_≡_, refl, ap, _∙_}
 use native.Mathlib.Omega.{arith}
-use lib.ListN.{length, take, drop}
+use lib.ListN.{length-take, length-drop, length, take, drop}
 use Rattle.layout.specs.Records.{outputOf}
 use Rattle.listing.specs.Listing.{lines, outputLine}
 use Rattle.listing.specs.Records.{recordsFrom, outputsIn}
 use Rattle.listing.proofs.Listed.{Listed, listed-start, listed-more, listed-end}
-use borrow.Author.Needs.{needs}
 use Rattle.listing.proofs.write_outputs.Statement.{statement}
 use Rattle.listing.proofs.write_outputs.Tie as tie
 
@@ -22,10 +21,10 @@ abbrev μ-loop : tie.MeasureT-loop
 μ-loop operations outputs netlist text₀ row₀ place₀ at₀ text row place at = outputs - row
 
 mul-place : tie.Need-mul-place Inv-loop μ-loop
-mul-place c = search needs
+mul-place c = omega arith
 
 add-place : tie.Need-add-place Inv-loop μ-loop
-add-place c = search needs
+add-place c = omega arith
 
 loop-holds : tie.Need-loop-holds Inv-loop μ-loop
 loop-holds c =
@@ -39,43 +38,43 @@ loop-holds c =
     )
 
 add-payload : tie.Need-add-payload Inv-loop μ-loop
-add-payload c = search needs
+add-payload c = omega arith
 
 add-place-2 : tie.Need-add-place-2 Inv-loop μ-loop
-add-place-2 c = search needs
+add-place-2 c = omega arith
 
 sub-read-output : tie.Need-sub-read-output Inv-loop μ-loop
-sub-read-output c = search needs
+sub-read-output c = omega arith
 
 part-read-output-start : tie.Need-part-read-output-start Inv-loop μ-loop
-part-read-output-start c = search needs
+part-read-output-start c = omega arith
 
 part-read-output-end : tie.Need-part-read-output-end Inv-loop μ-loop
-part-read-output-end c = search needs
+part-read-output-end c = omega arith
 
 read-output-requires : tie.Need-read-output-requires Inv-loop μ-loop
-read-output-requires c κs = search needs
+read-output-requires c κs = simp (length-take, length-drop) (omega arith)
 
 sub-write-output : tie.Need-sub-write-output Inv-loop μ-loop
-sub-write-output c = search needs
+sub-write-output c = omega arith
 
 part-write-output-start : tie.Need-part-write-output-start Inv-loop μ-loop
-part-write-output-start c = search needs
+part-write-output-start c = omega arith
 
 part-write-output-end : tie.Need-part-write-output-end Inv-loop μ-loop
-part-write-output-end c = search needs
+part-write-output-end c = omega arith
 
 write-output-requires : tie.Need-write-output-requires Inv-loop μ-loop
-write-output-requires c κs = search needs
+write-output-requires c κs = simp (length-take, length-drop) (omega arith)
 
 add-at : tie.Need-add-at Inv-loop μ-loop
-add-at c = search needs
+add-at c = omega arith
 
 add-row : tie.Need-add-row Inv-loop μ-loop
-add-row c = search needs
+add-row c = omega arith
 
 loop-less : tie.Need-loop-less Inv-loop μ-loop
-loop-less c = search needs
+loop-less c = omega arith
 
 loop-again : tie.Need-loop-again Inv-loop μ-loop
 loop-again c =
@@ -90,11 +89,11 @@ loop-again c =
           refl,
       omega arith,
       omega (arith, wrote .ensures .1),
-      search needs,
+      omega arith,
     )
 
 same-length : tie.Need-same-length Inv-loop μ-loop
-same-length c = search needs
+same-length c = omega arith
 
 returns : tie.Need-returns Inv-loop μ-loop
 returns c =

@@ -2,32 +2,32 @@
 use mathlib.Core.Path.{sym}
 use mathlib.Core.List.{_++_, append-assoc}
 use native.Mathlib.Omega.{arith}
+use lib.ListN.{length-take, length-drop}
 use Rattle.listing.specs.Decimal.{number}
 use Rattle.listing.proofs.Wrote.{wrote-as, wrote-more}
-use borrow.Author.Needs.{needs}
 use Rattle.listing.proofs.write_pair.Statement.{statement}
 use Rattle.listing.proofs.write_pair.Tie as tie
 
 write-labelled-requires : tie.Need-write-labelled-requires
-write-labelled-requires c κs = search needs
+write-labelled-requires c κs = omega arith
 
 sub-write-labelled : tie.Need-sub-write-labelled
-sub-write-labelled c = search needs
+sub-write-labelled c = omega arith
 
 part-write-labelled-start : tie.Need-part-write-labelled-start
-part-write-labelled-start c = search needs
+part-write-labelled-start c = omega arith
 
 part-write-labelled-end : tie.Need-part-write-labelled-end
-part-write-labelled-end c = search needs
+part-write-labelled-end c = omega arith
 
 write-labelled-requires-2 : tie.Need-write-labelled-requires-2
-write-labelled-requires-2 c κs = search needs
+write-labelled-requires-2 c κs = simp (length-take, length-drop) (omega arith)
 
 add-result : tie.Need-add-result
-add-result c = search needs
+add-result c = omega arith
 
 same-length : tie.Need-same-length
-same-length c = search needs
+same-length c = omega arith
 
 returns : tie.Need-returns
 returns c =

@@ -1,27 +1,27 @@
 -- `listing::write_place` meets its contract. Assumes nothing.
+use mathlib.Core.Path.{refl}
 use native.Mathlib.Omega.{arith}
 use lib.ListN.{length-take, length-drop}
 use Rattle.listing.specs.Listing.{ascii}
 use Rattle.listing.proofs.Decimal.{length-number}
 use Rattle.listing.proofs.Wrote.{wrote-copy, wrote-more}
-use borrow.Author.Needs.{needs}
 use Rattle.listing.proofs.write_place.Statement.{statement}
 use Rattle.listing.proofs.write_place.Tie as tie
 
 slice-aggregate-copy : tie.Need-slice-aggregate-copy
-slice-aggregate-copy c = search needs
+slice-aggregate-copy c = refl
 
 copy-requires : tie.Need-copy-requires
-copy-requires c κs = search needs
+copy-requires c κs = omega arith
 
 sub-write-number : tie.Need-sub-write-number
-sub-write-number c = search needs
+sub-write-number c = omega arith
 
 part-write-number-start : tie.Need-part-write-number-start
-part-write-number-start c = search needs
+part-write-number-start c = omega arith
 
 part-write-number-end : tie.Need-part-write-number-end
-part-write-number-end c = search needs
+part-write-number-end c = omega arith
 
 write-number-requires : tie.Need-write-number-requires
 write-number-requires c κs =
@@ -30,28 +30,28 @@ write-number-requires c κs =
     simp (length-take, length-drop) (omega arith)
 
 add-end : tie.Need-add-end
-add-end c = search needs
+add-end c = omega arith
 
 slice-aggregate-copy-2 : tie.Need-slice-aggregate-copy-2
-slice-aggregate-copy-2 c = search needs
+slice-aggregate-copy-2 c = refl
 
 sub-copy : tie.Need-sub-copy
-sub-copy c = search needs
+sub-copy c = omega arith
 
 part-copy-start : tie.Need-part-copy-start
-part-copy-start c = search needs
+part-copy-start c = omega arith
 
 part-copy-end : tie.Need-part-copy-end
-part-copy-end c = search needs
+part-copy-end c = omega arith
 
 copy-requires-2 : tie.Need-copy-requires-2
-copy-requires-2 c κs = search needs
+copy-requires-2 c κs = simp (length-take, length-drop) (omega arith)
 
 add-result : tie.Need-add-result
-add-result c = search needs
+add-result c = omega arith
 
 same-length : tie.Need-same-length
-same-length c = search needs
+same-length c = omega arith
 
 returns : tie.Need-returns
 returns c =

@@ -1,33 +1,34 @@
 -- `listing::write_refused` meets its contract. Assumes nothing.
+use mathlib.Core.Path.{refl}
 use native.Mathlib.Omega.{arith}
+use lib.ListN.{length-take, length-drop}
 use Rattle.listing.proofs.Wrote.{wrote-more}
-use borrow.Author.Needs.{needs}
 use Rattle.listing.proofs.write_refused.Statement.{statement}
 use Rattle.listing.proofs.write_refused.Tie as tie
 
 slice-aggregate-write-labelled : tie.Need-slice-aggregate-write-labelled
-slice-aggregate-write-labelled c = search needs
+slice-aggregate-write-labelled c = refl
 
 write-labelled-requires : tie.Need-write-labelled-requires
-write-labelled-requires c κs = search needs
+write-labelled-requires c κs = omega arith
 
 sub-write-place : tie.Need-sub-write-place
-sub-write-place c = search needs
+sub-write-place c = omega arith
 
 part-write-place-start : tie.Need-part-write-place-start
-part-write-place-start c = search needs
+part-write-place-start c = omega arith
 
 part-write-place-end : tie.Need-part-write-place-end
-part-write-place-end c = search needs
+part-write-place-end c = omega arith
 
 write-place-requires : tie.Need-write-place-requires
-write-place-requires c κs = search needs
+write-place-requires c κs = simp (length-take, length-drop) (omega arith)
 
 add-result : tie.Need-add-result
-add-result c = search needs
+add-result c = omega arith
 
 same-length : tie.Need-same-length
-same-length c = search needs
+same-length c = omega arith
 
 returns : tie.Need-returns
 returns c =

@@ -1,20 +1,21 @@
 -- `listing::write_value` meets its contract. Assumes nothing.
+use mathlib.Core.Path.{refl}
 use native.Mathlib.Omega.{arith}
+use lib.ListN.{length-take, length-drop}
 use Rattle.listing.specs.Listing.{ascii}
 use Rattle.listing.proofs.Lines.{value-zero, value-entry}
 use Rattle.listing.proofs.Wrote.{wrote-as, wrote-copy, wrote-more}
-use borrow.Author.Needs.{needs}
 use Rattle.listing.proofs.write_value.Statement.{statement}
 use Rattle.listing.proofs.write_value.Tie as tie
 
 slice-aggregate-copy : tie.Need-slice-aggregate-copy
-slice-aggregate-copy c = search needs
+slice-aggregate-copy c = refl
 
 copy-requires : tie.Need-copy-requires
-copy-requires c κs = search needs
+copy-requires c κs = omega arith
 
 same-length : tie.Need-same-length
-same-length c = search needs
+same-length c = omega arith
 
 returns : tie.Need-returns
 returns c =
@@ -24,31 +25,31 @@ returns c =
     )
 
 write-entry-requires : tie.Need-write-entry-requires
-write-entry-requires c κs = search needs
+write-entry-requires c κs = omega arith
 
 slice-aggregate-write-last : tie.Need-slice-aggregate-write-last
-slice-aggregate-write-last c = search needs
+slice-aggregate-write-last c = refl
 
 cast-write-last : tie.Need-cast-write-last
-cast-write-last c = search needs
+cast-write-last c = omega arith
 
 sub-write-last : tie.Need-sub-write-last
-sub-write-last c = search needs
+sub-write-last c = omega arith
 
 part-write-last-start : tie.Need-part-write-last-start
-part-write-last-start c = search needs
+part-write-last-start c = omega arith
 
 part-write-last-end : tie.Need-part-write-last-end
-part-write-last-end c = search needs
+part-write-last-end c = omega arith
 
 write-last-requires : tie.Need-write-last-requires
-write-last-requires c κs = search needs
+write-last-requires c κs = simp (length-take, length-drop) (omega arith)
 
 add-result : tie.Need-add-result
-add-result c = search needs
+add-result c = omega arith
 
 same-length-2 : tie.Need-same-length-2
-same-length-2 c = search needs
+same-length-2 c = omega arith
 
 returns-2 : tie.Need-returns-2
 returns-2 c =
