@@ -1,0 +1,2 @@
+-- The theorem of demand 3, and what joins the laws of compiler and checker.
+pub mod Claim
