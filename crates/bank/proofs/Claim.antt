@@ -30,13 +30,13 @@ use Rattle.compiler.proofs.Limits.{rows-columns, accepted-within}
 use Rattle.compiler.proofs.Compiled.{compiled-times, compiled-is, compiled-answer, compiled-length, answer-accepted, buffer-accepted}
 use Rattle.checker.specs.declared.ReadAnswer.{ReadAnswer}
 use Rattle.checker.specs.declared.RunAnswer.{RunAnswer}
-use Rattle.checker.specs.Read.{readAccepted}
-use Rattle.checker.specs.Run.{ran, netlistOutputs}
+use Rattle.checker.specs.Read.{readAccepted, readAnswer}
+use Rattle.checker.specs.Run.{ran, runAnswer, runOutputs, netlistOutputs}
 use Rattle.checker.specs.Exact.{IsOperation, IsOutput, IsNetlist, IsNetlistBytes}
 use Rattle.checker.proofs.ReadAccepts.{reading-of, read-answer}
 use Rattle.checker.proofs.RunLaws.{run-fills}
 use Rattle.bank.specs.declared.Answers.{Answers}
-use Rattle.bank.specs.Claim.{MatrixWithinLimits, bytesWritten, Overlap, Claim, answersOf, outputsAfter, Demand}
+use Rattle.bank.specs.Claim.{MatrixWithinLimits, Given, bytesWritten, Overlap, Claim, answersOf, outputsAfter, Demand}
 
 -- ---- a matrix within the limits is what compile does not refuse for the matrix's sake
 
@@ -175,6 +175,7 @@ module _ (matrixBytes : List ℕ) (w : MatrixWithinLimits matrixBytes) where
       compile-accepts = (ap (λ (a : CompileAnswer). a .refusal) compiles, ap (λ (a : CompileAnswer). a .place) compiles);
       read-accepts = (ap (λ (a : ReadAnswer). a .refusal) reads, ap (λ (a : ReadAnswer). a .place) reads);
       run-accepts = (ap (λ (a : RunAnswer). a .refusal) runs, ap (λ (a : RunAnswer). a .place) runs);
+      as-many-bytes = ap length written ∙ sym (ap (λ (a : CompileAnswer). a .written) compiles);
       netlist = compiledNetlist matrixBytes;
       its-bytes = there;
       its-reading = reading-of (bytesWritten (answers .compile) buffer) (compiledNetlist matrixBytes) there;
@@ -204,15 +205,25 @@ module _ (matrixBytes : List ℕ) (w : MatrixWithinLimits matrixBytes) where
 
 -- ---- the theorem
 
+-- of any buffer, outputs and answers that are what the contracts of compile, read and run say
+module _ (matrixBytes buffer after : List ℕ) (samples outputs filled : List ℤ) (answers : Answers) (given : Given matrixBytes buffer samples outputs) where
+  abbrev bytes : List ℕ
+  bytes = bytesWritten (answers .compile) after
+
+  pub claim-of-contracts : answers .compile ≡ compileAnswer matrixBytes (length buffer) → after ≡ compileBuffer matrixBytes buffer
+      → answers .read ≡ readAnswer bytes → answers .run ≡ runAnswer bytes (length samples) (length outputs) → filled ≡ runOutputs bytes samples outputs
+      → Claim matrixBytes after samples filled answers
+  claim-of-contracts compiles writes reads runs fills =
+      let w : MatrixWithinLimits matrixBytes = given .within-limits in
+      let e : matrixRefusal matrixBytes ≡ 0 = not-refused matrixBytes w in
+      let net : Netlist = compiledNetlist matrixBytes in
+      let written : bytes ≡ compiledBytes matrixBytes = ap₂ bytesWritten compiles writes ∙ bytes-written matrixBytes buffer e (given .long-enough) in
+      let there : IsNetlistBytes bytes net = subst (λ b. IsNetlistBytes b net) (sym written) (netlist-there matrixBytes w) in
+      let run = run-fills bytes samples outputs net there (given .vector .count ∙ sym (head-columns matrixBytes)) (given .one-per-row ∙ sym (head-rows matrixBytes)) in
+      claim-of-answers matrixBytes w after samples filled answers (given .vector)
+      (compiles ∙ answer-accepted matrixBytes (length buffer) e (given .long-enough)) written (reads ∙ read-answer bytes net there) (runs ∙ run .0) (fills ∙ run .1)
+
 pub claim-holds : Demand
 claim-holds matrixBytes buffer samples outputs given =
-    let w : MatrixWithinLimits matrixBytes = given .within-limits in
-    let e : matrixRefusal matrixBytes ≡ 0 = not-refused matrixBytes w in
-    let net : Netlist = compiledNetlist matrixBytes in
-    let bytes : List ℕ = bytesWritten (compileAnswer matrixBytes (length buffer)) (compileBuffer matrixBytes buffer) in
-    let written : bytes ≡ compiledBytes matrixBytes = bytes-written matrixBytes buffer e (given .long-enough) in
-    let there : IsNetlistBytes bytes net = subst (λ b. IsNetlistBytes b net) (sym written) (netlist-there matrixBytes w) in
-    let run = run-fills bytes samples outputs net there (given .vector .count ∙ sym (head-columns matrixBytes)) (given .one-per-row ∙ sym (head-rows matrixBytes)) in
-    claim-of-answers matrixBytes w (compileBuffer matrixBytes buffer) samples (outputsAfter matrixBytes buffer samples outputs)
-    (answersOf matrixBytes buffer samples outputs) (given .vector)
-    (answer-accepted matrixBytes (length buffer) e (given .long-enough)) written (read-answer bytes net there) (run .0) (run .1)
+    claim-of-contracts matrixBytes buffer (compileBuffer matrixBytes buffer) samples outputs (outputsAfter matrixBytes buffer samples outputs)
+    (answersOf matrixBytes buffer samples outputs) given refl refl refl refl refl

@@ -73,6 +73,8 @@ pub record Claim (matrixBytes buffer : List ℕ) (samples outputs : List ℤ) (a
   pub compile-accepts : Accepts (answers .compile .refusal) (answers .compile .place)
   pub read-accepts : Accepts (answers .read .refusal) (answers .read .place)
   pub run-accepts : Accepts (answers .run .refusal) (answers .run .place)
+  -- "as many as compile reports written"
+  pub as-many-bytes : length (bytesWritten (answers .compile) buffer) ≡ answers .compile .written
   -- the bytes that compile wrote are those of one netlist, as document 01 lays its records out and as read reads them: "The board machine
   -- takes its operations and outputs from these same bytes."
   pub netlist : Netlist
