@@ -1,0 +1,229 @@
+-- The claim of demand 3 holds, and what joins the laws of compiler and checker: a compiled netlist is a netlist as read takes it, and
+-- the bytes written are its bytes.
+-- Assumes nothing.
+use Prim.Native.Nat.{ℕ, _+_, _≤_, _<_}
+use mathlib.Core.Path.{_≡_, refl, sym, ap, ap₂, _∙_, subst}
+use mathlib.Core.Bool.{false, _||_}
+use mathlib.Core.List.{List, List·Memᴰ}
+use native.Mathlib.Omega.{arith}
+use lib.IntN.{ℤ}
+use lib.ListN.{length, getD, drop}
+use lib.Seq.{take-append-seam}
+use borrow.Author.Tests.{le-ltb}
+use Rattle.elimination.specs.declared.Divisor.{Divisor}
+use Rattle.elimination.specs.Rows.{Row, matrixRows}
+use Rattle.elimination.specs.Divisors.{Pair, occurrences}
+use Rattle.elimination.specs.Elimination.{smallestFirst, matrixElimination}
+use Rattle.elimination.specs.Steps.{Steps}
+use Rattle.elimination.proofs.RowOrder.{rowAt, occurrence}
+use Rattle.elimination.proofs.Elimination.{steps-of, remaining-overlap}
+use Rattle.layout.specs.declared.Operation.{Operation}
+use Rattle.layout.specs.declared.Output.{Output}
+use Rattle.layout.specs.Matrix.{matrixRefusal, matrix, rows, columns, outside}
+use Rattle.layout.specs.Records.{Netlist}
+use Rattle.layout.proofs.MatrixRefusal.{AcceptedMatrix, accepted-matrix, none}
+use Rattle.width.specs.Width.{Samples}
+use Rattle.compiler.specs.declared.CompileAnswer.{CompileAnswer}
+use Rattle.compiler.specs.Compile.{eliminationOf, netlistOf, compiledNetlist, compiledBytes, compileAccepted, compileAnswer, compileBuffer}
+use Rattle.compiler.specs.Compiled.{CompiledNetlist, CompiledOperation, CompiledOutput, AcceptedAnswer}
+use Rattle.compiler.proofs.Limits.{rows-columns, accepted-within}
+use Rattle.compiler.proofs.Compiled.{compiled-times, compiled-is, compiled-answer, compiled-length, answer-accepted, buffer-accepted}
+use Rattle.checker.specs.declared.ReadAnswer.{ReadAnswer}
+use Rattle.checker.specs.declared.RunAnswer.{RunAnswer}
+use Rattle.checker.specs.Read.{readAccepted, readAnswer}
+use Rattle.checker.specs.Run.{ran, runAnswer, runOutputs, netlistOutputs}
+use Rattle.checker.specs.Exact.{IsOperation, IsOutput, IsNetlist, IsNetlistBytes}
+use Rattle.checker.proofs.ReadAccepts.{reading-of, read-answer}
+use Rattle.checker.proofs.RunLaws.{run-fills}
+use Rattle.bank.specs.declared.Answers.{Answers}
+use Rattle.bank.specs.Claim.{MatrixWithinLimits, Given, bytesWritten, Overlap, Claim, answersOf, outputsAfter, Demand}
+
+-- ---- a matrix within the limits is what compile does not refuse for the matrix's sake
+
+module _ (bytes : List ℕ) where
+  inside : (x : ℕ) → 1 ≤ x → x ≤ 8 → outside x ≡ false
+  inside x least most = rw (le-ltb x 1 least, le-ltb 8 x most)
+
+  pub not-refused : MatrixWithinLimits bytes → matrixRefusal bytes ≡ 0
+  not-refused w =
+      let limits : (outside (rows bytes) || outside (columns bytes)) ≡ false =
+      rw (inside (rows bytes) (w .rows-least) (w .rows-most), inside (columns bytes) (w .columns-least) (w .columns-most)) in
+      sym (none bytes (omega (arith, w .size)) (w .counted) (w .kind) limits (w .size))
+
+  pub within-limits : ((i : ℕ) → getD bytes i 0 < 256) → matrixRefusal bytes ≡ 0 → MatrixWithinLimits bytes
+  within-limits all e =
+      let a : AcceptedMatrix bytes = accepted-matrix bytes e in
+      record {
+        are-bytes = all;
+        counted = a .counted;
+        kind = a .kind;
+        rows-least = a .rows-least;
+        rows-most = a .rows-most;
+        columns-least = a .columns-least;
+        columns-most = a .columns-most;
+        size = a .size;
+      }
+
+-- ---- a compiled netlist is a netlist as read takes it: its shifts are at most 15, its widths at most 35 and so at most 40
+
+pub compiled-netlist-is : (net : Netlist) → CompiledNetlist 16 16 35 504 net → IsNetlist net
+compiled-netlist-is net c = record {
+  head = record { rows-least = c .rows-least; rows-most = c .rows-most; columns-least = c .columns-least; columns-most = c .columns-most; few = c .few };
+  count = c .count;
+  one-per-row = c .one-per-row;
+  operation = λ before after o e. of-operation before o (c .operation before after o e);
+  output = λ before after o e. of-output o (c .output before after o e);
+  totals = record { count = c .total-count; deepest = c .total-depth };
+}
+  where
+    of-operation : (before : List Operation) (o : Operation)
+        → CompiledOperation 16 16 35 (net .head .n) (net .operations) (net .head .n + length before) o → IsOperation (net .head .n) (net .operations) before o
+    of-operation before o is = record {
+      limits = record {
+        sign = is .sign;
+        first-shift = omega (arith, is .first-shift);
+        second-shift = omega (arith, is .second-shift);
+        first-earlier = is .first-earlier;
+        second-earlier = is .second-earlier;
+      };
+      width = record { width = is .width; narrow = omega (arith, is .narrow) };
+    }
+
+    of-output : (o : Output) → CompiledOutput 16 16 35 (net .head .n) (net .operations) o → IsOutput (net .head .n) (net .operations) o
+    of-output o is = record {
+      limits = record { sign = is .sign; shift = omega (arith, is .shift); symbol = is .symbol; zero = is .zero };
+      width = record { width = is .width; narrow = omega (arith, is .narrow) };
+    }
+
+-- ---- the head and the bytes written
+
+head-rows : (bytes : List ℕ) → compiledNetlist bytes .head .m ≡ rows bytes
+unfolding netlistOf
+head-rows bytes = refl
+
+head-columns : (bytes : List ℕ) → compiledNetlist bytes .head .n ≡ columns bytes
+unfolding netlistOf
+head-columns bytes = refl
+
+pub bytes-written : (matrixBytes buffer : List ℕ) → matrixRefusal matrixBytes ≡ 0 → length (compiledBytes matrixBytes) ≤ length buffer
+    → bytesWritten (compileAnswer matrixBytes (length buffer)) (compileBuffer matrixBytes buffer) ≡ compiledBytes matrixBytes
+bytes-written matrixBytes buffer e room =
+    let bytes : List ℕ = compiledBytes matrixBytes in
+    ap₂ bytesWritten (answer-accepted matrixBytes (length buffer) e room) (buffer-accepted matrixBytes buffer e room)
+    ∙ take-append-seam bytes (drop (length bytes) buffer)
+
+-- ---- a matrix within the limits
+
+module _ (matrixBytes : List ℕ) (w : MatrixWithinLimits matrixBytes) where
+  refusal : matrixRefusal matrixBytes ≡ 0
+  refusal = not-refused matrixBytes w
+
+  compiled : CompiledNetlist 16 16 35 504 (compiledNetlist matrixBytes)
+  compiled = compiled-is matrixBytes (w .are-bytes) refusal
+
+  netlist-there : IsNetlistBytes (compiledBytes matrixBytes) (compiledNetlist matrixBytes)
+  netlist-there = record { netlist = compiled-netlist-is (compiledNetlist matrixBytes) compiled; bytes = refl }
+
+  answer : AcceptedAnswer (rows matrixBytes) 504 (compileAccepted matrixBytes)
+  answer = compiled-answer matrixBytes (w .are-bytes) refusal
+
+  -- "6,136 bytes always suffice": so much room is long enough for any matrix's netlist
+  pub always-long-enough : (buffer : List ℕ) → 6136 ≤ length buffer → length (compiledBytes matrixBytes) ≤ length buffer
+  always-long-enough buffer room = omega (arith, compiled-length matrixBytes (w .are-bytes) refusal)
+
+  -- document 01's elimination of the matrix
+  steps : let e = eliminationOf matrixBytes in Steps (columns matrixBytes) (matrixRows 16 (matrix matrixBytes)) (e .divisors) (e .replacements) (e .remainingRows)
+  unfolding matrixElimination
+  steps = steps-of smallestFirst 16 (columns matrixBytes) (matrix matrixBytes)
+
+  all-overlap : (d : Divisor) (i j : ℕ) (p q : Pair)
+      → List·Memᴰ p (occurrences d (rowAt (eliminationOf matrixBytes .remainingRows) i))
+      → List·Memᴰ q (occurrences d (rowAt (eliminationOf matrixBytes .remainingRows) j)) → Overlap i p j q
+  unfolding matrixElimination
+  all-overlap d i j p q first second =
+      let remaining : List Row = eliminationOf matrixBytes .remainingRows in
+      remaining-overlap smallestFirst 16 (columns matrixBytes) (matrix matrixBytes)
+      (rows-columns 16 (columns matrixBytes) (matrix matrixBytes) (accepted-within matrixBytes (w .are-bytes) refusal .coefficients))
+      d i j p q (occurrence d (rowAt remaining i) p first) (occurrence d (rowAt remaining j) q second)
+
+  -- what the contracts of compile, read and run say of their answers, of the buffer and of the outputs is enough for the claim
+  module _ (buffer : List ℕ) (samples outputs : List ℤ) (answers : Answers) (vector : Samples 16 (columns matrixBytes) samples)
+      (compiles : answers .compile ≡ compileAccepted matrixBytes) (written : bytesWritten (answers .compile) buffer ≡ compiledBytes matrixBytes)
+      (reads : answers .read ≡ readAccepted (compiledNetlist matrixBytes)) (runs : answers .run ≡ ran 0 0)
+      (filled : outputs ≡ netlistOutputs (compiledNetlist matrixBytes) samples) where
+    there : IsNetlistBytes (bytesWritten (answers .compile) buffer) (compiledNetlist matrixBytes)
+    there = subst (λ b. IsNetlistBytes b (compiledNetlist matrixBytes)) (sym written) netlist-there
+
+    plain : answers .compile .plain ≡ compileAccepted matrixBytes .plain
+    plain = ap (λ (a : CompileAnswer). a .plain) compiles
+
+    divisors : answers .compile .divisors ≡ compileAccepted matrixBytes .divisors
+    divisors = ap (λ (a : CompileAnswer). a .divisors) compiles
+
+    replacements : answers .compile .replacements ≡ compileAccepted matrixBytes .replacements
+    replacements = ap (λ (a : CompileAnswer). a .replacements) compiles
+
+    count : length (compiledNetlist matrixBytes .operations) + answers .compile .replacements ≡ answers .compile .plain + answers .compile .divisors
+    count = omega (arith, plain, divisors, replacements, compiled .count, answer .operations)
+
+    fewer : length (compiledNetlist matrixBytes .operations) + answers .compile .divisors ≤ answers .compile .plain
+    fewer = omega (arith, plain, divisors, compiled .count, answer .fewer)
+
+    pub claim-of-answers : Claim matrixBytes buffer samples outputs answers
+    unfolding netlistOf
+    claim-of-answers = record {
+      compile-accepts = (ap (λ (a : CompileAnswer). a .refusal) compiles, ap (λ (a : CompileAnswer). a .place) compiles);
+      read-accepts = (ap (λ (a : ReadAnswer). a .refusal) reads, ap (λ (a : ReadAnswer). a .place) reads);
+      run-accepts = (ap (λ (a : RunAnswer). a .refusal) runs, ap (λ (a : RunAnswer). a .place) runs);
+      as-many-bytes = ap length written ∙ sym (ap (λ (a : CompileAnswer). a .written) compiles);
+      netlist = compiledNetlist matrixBytes;
+      its-bytes = there;
+      its-reading = reading-of (bytesWritten (answers .compile) buffer) (compiledNetlist matrixBytes) there;
+      read-rows = ap (λ (a : ReadAnswer). a .m) reads;
+      read-columns = ap (λ (a : ReadAnswer). a .n) reads;
+      read-operations = ap (λ (a : ReadAnswer). a .operations) reads ∙ sym (ap (λ (a : CompileAnswer). a .operations) compiles);
+      read-depth = ap (λ (a : ReadAnswer). a .depth) reads ∙ sym (ap (λ (a : CompileAnswer). a .depth) compiles);
+      machine-outputs = filled;
+      row-times-vector = filled ∙ compiled-times matrixBytes (w .are-bytes) refusal samples (vector .count);
+      operation-within = λ before after o e. compiled .operation before after o e .width .holds samples vector;
+      output-within = λ before after o e. compiled .output before after o e .width .holds samples vector;
+      elimination = eliminationOf matrixBytes;
+      by-the-rules = refl;
+      plain-reported = plain;
+      divisors-reported = divisors;
+      replacements-reported = replacements;
+      operation-count = omega (arith, count);
+      operation-count-added = count;
+      operations-reported = ap (λ (a : CompileAnswer). a .operations) compiles ∙ sym (compiled .count);
+      at-most = omega (arith, fewer);
+      at-most-added = fewer;
+      occurrences-overlap = all-overlap;
+      very-operations = refl;
+      very-outputs = refl;
+      way-to-those-rows = steps;
+    }
+
+-- ---- the theorem
+
+-- of any buffer, outputs and answers that are what the contracts of compile, read and run say
+module _ (matrixBytes buffer after : List ℕ) (samples outputs filled : List ℤ) (answers : Answers) (given : Given matrixBytes buffer samples outputs) where
+  abbrev bytes : List ℕ
+  bytes = bytesWritten (answers .compile) after
+
+  pub claim-of-contracts : answers .compile ≡ compileAnswer matrixBytes (length buffer) → after ≡ compileBuffer matrixBytes buffer
+      → answers .read ≡ readAnswer bytes → answers .run ≡ runAnswer bytes (length samples) (length outputs) → filled ≡ runOutputs bytes samples outputs
+      → Claim matrixBytes after samples filled answers
+  claim-of-contracts compiles writes reads runs fills =
+      let w : MatrixWithinLimits matrixBytes = given .within-limits in
+      let e : matrixRefusal matrixBytes ≡ 0 = not-refused matrixBytes w in
+      let net : Netlist = compiledNetlist matrixBytes in
+      let written : bytes ≡ compiledBytes matrixBytes = ap₂ bytesWritten compiles writes ∙ bytes-written matrixBytes buffer e (given .long-enough) in
+      let there : IsNetlistBytes bytes net = subst (λ b. IsNetlistBytes b net) (sym written) (netlist-there matrixBytes w) in
+      let run = run-fills bytes samples outputs net there (given .vector .count ∙ sym (head-columns matrixBytes)) (given .one-per-row ∙ sym (head-rows matrixBytes)) in
+      claim-of-answers matrixBytes w after samples filled answers (given .vector)
+      (compiles ∙ answer-accepted matrixBytes (length buffer) e (given .long-enough)) written (reads ∙ read-answer bytes net there) (runs ∙ run .0) (fills ∙ run .1)
+
+pub claim-holds : Demand
+claim-holds matrixBytes buffer samples outputs given =
+    claim-of-contracts matrixBytes buffer (compileBuffer matrixBytes buffer) samples outputs (outputsAfter matrixBytes buffer samples outputs)
+    (answersOf matrixBytes buffer samples outputs) given refl refl refl refl refl
