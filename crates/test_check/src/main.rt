@@ -1,4 +1,4 @@
-// Runs read on stored cases. Standard input is a list of cases: the length of a matrix record and the length of a netlist (2 bytes
+// Runs read and check on stored cases. Standard input is a list of cases: the length of a matrix record and the length of a netlist (2 bytes
 // each, little-endian), then the bytes of both. What is printed is compared with the output of a second implementation.
 use layout::bytes::word_at;
 use libc::STDIN_FILENO;
@@ -21,17 +21,26 @@ fn read_case(netlist: &[u8]) {
     io::write_all(STDOUT_FILENO, b"\n");
 }
 
+fn check_case(matrix: &[u8], netlist: &[u8]) {
+    let answer = checker::check::check(matrix, netlist);
+    io::write_all(STDOUT_FILENO, b"check");
+    write_number(answer.refusal as u64);
+    write_number(answer.place as u64);
+    io::write_all(STDOUT_FILENO, b"\n");
+}
+
 // The part that is lent takes the netlist.
-fn fill_netlist(netlist: &mut [u8]) {
+fn fill_netlist(matrix: &[u8], netlist: &mut [u8]) {
     io::read_full(STDIN_FILENO, netlist);
     read_case(netlist);
+    check_case(matrix, netlist);
 }
 
 // The part that is lent takes the matrix record; the netlist follows.
 fn fill_matrix(matrix: &mut [u8], length: u16) {
     io::read_full(STDIN_FILENO, matrix);
     let mut netlist = io::large_buffer();
-    fill_netlist(&mut netlist[..length as usize]);
+    fill_netlist(matrix, &mut netlist[..length as usize]);
 }
 
 // Reads one case and answers whether there was one.
