@@ -1,9 +1,9 @@
 -- Replacements are at least twice the divisors; the plain count goes down by the replacements; and a matrix's plain count, and so
 -- the number of divisors, is limited by its size.
 -- Assumes nothing.
-use Prim.Native.Nat.{ℕ, zero, suc, _+_, _*_, _-_, _≤_, pred}
+use Prim.Native.Nat.{ℕ, zero, suc, _+_, _*_, _-_, _≤_}
 use mathlib.Core.Path.{_≡_, refl, ap}
-use mathlib.Core.List.{List, [], _∷_, _++_}
+use mathlib.Core.List.{List, [], _∷_}
 use native.Mathlib.Omega.{arith}
 use native.Mathlib.Nat.{mul-le-mul}
 use lib.IntN.{ℤ, pos, negsuc}
@@ -12,8 +12,8 @@ use Rattle.digits.specs.Digits.{digits, nonzero}
 use Rattle.digits.proofs.Count.{digits-nonzero-half}
 use Rattle.elimination.specs.declared.Divisor.{Divisor}
 use Rattle.elimination.specs.Rows.{Row, columnTerms, rowFrom, matrixRows, plainCount}
-use Rattle.elimination.specs.Divisors.{taken, score}
-use Rattle.elimination.specs.Elimination.{rowAfter, rowsAfter}
+use Rattle.elimination.specs.Divisors.{score}
+use Rattle.elimination.specs.Elimination.{rowsAfter}
 use Rattle.elimination.specs.Steps.{Steps, end, step}
 use Rattle.elimination.proofs.Order.{Columns}
 use Rattle.elimination.proofs.Replaced.{length-after}

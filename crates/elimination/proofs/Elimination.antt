@@ -13,11 +13,11 @@ use Rattle.elimination.specs.Divisors.{Pair, overlap, score}
 use Rattle.elimination.specs.Elimination.{TieOrder, Eliminated, elimination}
 use Rattle.elimination.specs.Steps.{Steps}
 use Rattle.elimination.specs.Weights.{rowWeight, Weights, ColumnWeight}
-use Rattle.elimination.proofs.RowOrder.{Occurrence}
+use Rattle.elimination.proofs.RowOrder.{Occurrence, rowAt}
 use Rattle.elimination.proofs.Order.{Columns, DivisorsWithin, matrix-well-formed, steps-well-formed, steps-divisors-within}
 use Rattle.elimination.proofs.Value.{Values, steps-value}
 use Rattle.elimination.proofs.Counts.{steps-twice, steps-operations, divisors-within}
-use Rattle.elimination.proofs.End.{elimination-steps, elimination-ended, rowAt, all-overlap}
+use Rattle.elimination.proofs.End.{elimination-steps, elimination-ended, all-overlap}
 use Rattle.elimination.proofs.Weights.{WeightsWithin, steps-weight, steps-weights-within, steps-rows-within}
 use Rattle.elimination.proofs.Matrix.{matrix-weights}
 

@@ -4,21 +4,21 @@
 use Prim.Native.Nat.{ℕ, zero, suc, _+_, _*_, _≤_, _<_}
 use mathlib.Core.Path.{_≡_, refl, sym, _∙_, ap, subst}
 use mathlib.Core.Bool.{Bool, true, false}
-use mathlib.Core.Logic.{_⊎_, inl, inr, ⊎-elim}
-use mathlib.Core.List.{List, [], _∷_, _++_, List·Memᴰ, List·Memᴰ·cases-cons, List·Memᴰ·not-nil, List·Memᴰ·eq-of-singleton}
+use mathlib.Core.Logic.{⊎-elim}
+use mathlib.Core.List.{List, [], _∷_, _++_, List·Memᴰ·cases-cons, List·Memᴰ·not-nil, List·Memᴰ·eq-of-singleton}
 use native.Mathlib.Omega.{arith}
 use lib.Dec.{eqb, ltb}
 use lib.IntN.{ℤ}
-use lib.ListN.{length, getD}
+use lib.ListN.{length}
 use borrow.Author.Tests.{eqb-true, eqb-false, ltb-true, ltb-false, lt-ltb, le-ltb}
 use Rattle.elimination.specs.declared.Divisor.{Divisor}
 use Rattle.elimination.specs.Rows.{Row, Ascending, EachRow, matrixRows, plainCount}
 use Rattle.elimination.specs.Divisors.{Pair, overlap, taken, score}
-use Rattle.elimination.specs.Elimination.{TieOrder, Scored, pick, rowsAfter, Eliminated, ended, andThen, eliminate, elimination}
+use Rattle.elimination.specs.Elimination.{TieOrder, Scored, pick, rowsAfter, Eliminated, ended, andThen, eliminate, enoughSteps, elimination}
 use Rattle.elimination.specs.Steps.{Steps, end, step}
-use Rattle.elimination.proofs.Tests.{by-bool, clash}
-use Rattle.elimination.proofs.RowOrder.{Occurrence}
-use Rattle.elimination.proofs.Taken.{NoOverlap, Choice, overlap-turned, taken-most}
+use Rattle.elimination.proofs.Tests.{by-bool}
+use Rattle.elimination.proofs.RowOrder.{Occurrence, rowAt}
+use Rattle.elimination.proofs.Taken.{overlap-turned, taken-most}
 use Rattle.elimination.proofs.Order.{Columns}
 use Rattle.elimination.proofs.Counts.{plain-after, plain-within}
 use Rattle.elimination.proofs.Pick.{pick-highest, pick-score}
@@ -131,24 +131,29 @@ module _ (order : TieOrder) where
   pub elimination-steps : (inputs : ℕ) (rows : List Row)
       → Steps inputs rows (elimination order inputs rows .divisors) (elimination order inputs rows .replacements) (elimination order inputs rows .remainingRows)
   unfolding elimination
-  elimination-steps inputs rows = eliminate-steps (plainCount rows) inputs [] rows
+  elimination-steps inputs rows = eliminate-steps (enoughSteps rows) inputs [] rows
 
   -- it ends because the highest score is below 2
   pub elimination-ended : (inputs : ℕ) (rows : List Row) (d : Divisor) → score d (elimination order inputs rows .remainingRows) < 2
   unfolding elimination
-  elimination-ended inputs rows = eliminate-ended (plainCount rows) inputs [] rows (omega arith)
+  elimination-ended inputs rows = eliminate-ended (enoughSteps rows) inputs [] rows (omega arith)
+
+  -- whichever order it is measured by
+  pub elimination-highest : (inputs : ℕ) (rows : List Row) (first : Divisor → Divisor → Bool) → pick first (elimination order inputs rows .remainingRows) .score < 2
+  elimination-highest inputs rows first =
+      let rest : List Row = elimination order inputs rows .remainingRows in
+      by-bool (ltb (pick first rest .score) 2)
+      (λ e. ltb-true (pick first rest .score) 2 e)
+      (λ e. absurd (omega (arith, ltb-false (pick first rest .score) 2 e, pick-score first rest (ltb-false (pick first rest .score) 2 e), elimination-ended inputs rows (pick first rest .divisor))))
 
   -- within 252 steps, for 8 by 8 at the most and 16 positions
   pub elimination-within : (n : ℕ) (m : List (List ℤ)) → Columns n m → n ≤ 8 → length m ≤ 8
       → elimination order n (matrixRows 16 m) ≡ eliminate order 252 n [] (matrixRows 16 m)
   unfolding elimination
   elimination-within n m c hn hm =
-      enough-fuel (plainCount (matrixRows 16 m)) 252 n [] (matrixRows 16 m) (omega arith) (omega (arith, plain-within n m c hn hm))
+      enough-fuel (enoughSteps (matrixRows 16 m)) 252 n [] (matrixRows 16 m) (omega arith) (omega (arith, plain-within n m c hn hm))
 
 -- ---- where every score is below 2, any two occurrences of one divisor overlap: they are in the same row and share a term
-
-abbrev pub rowAt : List Row → ℕ → Row
-rowAt rows i = getD rows i []
 
 ascending-at : (rows : List Row) → EachRow Ascending rows → (i : ℕ) → Ascending (rowAt rows i)
 ascending-at [] a i = tt

@@ -2,6 +2,7 @@ pub mod Tests
 pub mod Same
 pub mod RowOrder
 pub mod Taken
+pub mod Visit
 pub mod Replaced
 pub mod Value
 pub mod Order
@@ -13,3 +14,8 @@ pub mod Weights
 pub mod Matrix
 pub mod Elimination
 pub mod Marked
+pub mod LookupSigns
+pub mod LookupTaken
+pub mod LookupPick
+pub mod LookupAfter
+pub mod LookupFlags

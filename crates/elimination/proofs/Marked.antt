@@ -18,4 +18,8 @@ marked-elimination = record {
   plain-four = refl;
   divisors-four = refl;
   replacements-four = refl;
+  plain-three = refl;
+  divisors-three = refl;
+  replacements-three = refl;
+  ties-four = refl;
 }

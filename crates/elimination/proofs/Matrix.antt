@@ -4,7 +4,7 @@
 use Prim.Native.Nat.{ℕ, zero, suc, _+_, _*_, _^_, _≤_, _<_}
 use mathlib.Core.Path.{_≡_, refl, sym, _∙_, ap, ap₂}
 use mathlib.Core.Bool.{Bool, true, false}
-use mathlib.Core.List.{List, [], _∷_, _++_, map, List·Memᴰ, List·Memᴰ·head, List·Memᴰ·tail}
+use mathlib.Core.List.{List, [], _∷_, _++_, List·Memᴰ, List·Memᴰ·head, List·Memᴰ·tail}
 use native.Mathlib.Omega.{arith}
 use native.Mathlib.Nat.{add-mul, mul-le-mul}
 use lib.Dec.{eqb, ltb}
@@ -21,13 +21,11 @@ use Rattle.digits.proofs.Powers.{digits-powers}
 use Rattle.elimination.specs.declared.Divisor.{Divisor}
 use Rattle.elimination.specs.Rows.{Row, signed, termValue, rowSum, rowValue, columnTerms, rowFrom, matrixRows, EachRow}
 use Rattle.elimination.specs.Divisors.{divisorValue}
-use Rattle.elimination.specs.Steps.{Steps}
 use Rattle.elimination.specs.Weights.{termWeight, rowWeight, divisorWeight, Weights, ColumnWeight}
 use Rattle.elimination.proofs.Tests.{by-bool}
 use Rattle.elimination.proofs.Replaced.{sum-append}
-use Rattle.elimination.proofs.Order.{Columns, DivisorWithin, DivisorsWithin}
+use Rattle.elimination.proofs.Order.{Columns, DivisorsWithin}
 use Rattle.elimination.proofs.Value.{Values}
-use Rattle.elimination.proofs.Weights.{WeightsWithin, steps-weights-within}
 
 -- ---- the value of a matrix's row
 

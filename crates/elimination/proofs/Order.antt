@@ -1,10 +1,10 @@
 -- Rows keep their order, hold no two terms of one symbol and exponent, exponents below the number of positions, and symbols below
 -- the next one: the matrix's rows, and the rows after any number of steps.
 -- Assumes nothing.
-use Prim.Native.Nat.{ℕ, zero, suc, _+_, _≤_, _<_, min}
+use Prim.Native.Nat.{ℕ, zero, suc, _+_, _≤_, _<_}
 use mathlib.Core.Path.{_≡_, refl, sym, _∙_, ap, subst}
-use mathlib.Core.Logic.{_⊎_, inl, inr, ⊎-elim}
-use mathlib.Core.Bool.{Bool, true, false}
+use mathlib.Core.Logic.{inl, inr, ⊎-elim}
+use mathlib.Core.Bool.{true}
 use mathlib.Core.List.{List, [], _∷_, _++_, List·Memᴰ, List·Memᴰ·head, List·Memᴰ·tail, List·Memᴰ·cases-cons, List·Memᴰ·not-nil, List·Memᴰ·append-cases}
 use native.Mathlib.Omega.{arith}
 use lib.IntN.{ℤ, pos, negsuc}
@@ -15,7 +15,7 @@ use Rattle.digits.proofs.Canonic.{digits-length}
 use Rattle.elimination.specs.declared.Divisor.{Divisor}
 use Rattle.elimination.specs.Rows.{Row, Precedes, Ascending, NoneTwice, WellFormed, EachRow, columnTerms, rowFrom, matrixRows}
 use Rattle.elimination.specs.Divisors.{Pair, coDivisor, overlap, taken, score}
-use Rattle.elimination.specs.Elimination.{sameTerm, dropTerm, withoutPairs, newTerm, newTerms, rowAfter, rowsAfter}
+use Rattle.elimination.specs.Elimination.{sameTerm, dropTerm, withoutPairs, newTerms, rowAfter, rowsAfter}
 use Rattle.elimination.specs.Steps.{Steps, end, step}
 use Rattle.elimination.proofs.Tests.{by-test, clash}
 use Rattle.elimination.proofs.RowOrder.{Placed, Occurrence, occurrence-placed, pairs-member, CoDivisorsRise}

@@ -1,22 +1,20 @@
 -- The pick's score is that of its divisor, and no divisor has a higher one. Of equal scores it is the first, by any order that is
 -- transitive; and where the order tells any two divisors apart, nothing else is the pick.
 -- Assumes nothing.
-use Prim.Native.Nat.{ℕ, zero, suc, _+_, _≤_, _<_}
+use Prim.Native.Nat.{_≤_, _<_}
 use mathlib.Core.Path.{_≡_, refl, sym, _∙_, ap}
 use mathlib.Core.Logic.{_⊎_, inl, inr, ⊎-elim}
-use mathlib.Core.Bool.{Bool, true, false, _&&_, _||_}
-use mathlib.Core.List.{List, [], _∷_, _++_, List·Memᴰ, List·Memᴰ·head, List·Memᴰ·tail, List·Memᴰ·cases-cons, List·Memᴰ·not-nil, Memᴰ·append-left, Memᴰ·append-right}
+use mathlib.Core.Bool.{Bool, true, false, _&&_}
+use mathlib.Core.List.{List, [], _∷_, List·Memᴰ, List·Memᴰ·head, List·Memᴰ·tail, List·Memᴰ·cases-cons, List·Memᴰ·not-nil, Memᴰ·append-left, Memᴰ·append-right}
 use native.Mathlib.Omega.{arith}
 use lib.Dec.{eqb, ltb}
-use lib.ListN.{length}
 use borrow.Author.Tests.{eqb-true, eq-eqb, ltb-true, ltb-false}
 use Rattle.elimination.specs.declared.Divisor.{Divisor}
 use Rattle.elimination.specs.Rows.{Row}
-use Rattle.elimination.specs.Divisors.{Pair, divisorOf, pairsOf, taken, score}
+use Rattle.elimination.specs.Divisors.{Pair, divisorOf, pairsOf, score}
 use Rattle.elimination.specs.Elimination.{Scored, scored, better, bestFrom, bestOf, allPairs, noPairs, pick}
-use Rattle.elimination.proofs.Tests.{by-bool, clash, and-left, and-both, or-left, or-right, or-no-left, or-no-right, or-cases, and-right}
-use Rattle.elimination.proofs.RowOrder.{Occurrence}
-use Rattle.elimination.proofs.Order.{Occurs, score-occurs}
+use Rattle.elimination.proofs.Tests.{by-bool, clash, and-left, and-both, or-right, or-no-left, or-cases, and-right}
+use Rattle.elimination.proofs.Order.{score-occurs}
 
 all-pairs : (r : Row) (rows : List Row) → List·Memᴰ r rows → (p : Pair) → List·Memᴰ p (pairsOf r) → List·Memᴰ p (allPairs rows)
 unfolding allPairs

@@ -1,10 +1,10 @@
 -- What a step does to a row: it takes both terms of each taken pair out, each once, and adds one term for each pair. So a sum over
 -- the row stays as it was if each new term has the sum of its pair.
 -- Assumes nothing.
-use Prim.Native.Nat.{ℕ, zero, suc, _+_, _*_, pred}
+use Prim.Native.Nat.{ℕ, suc, _+_, _*_, pred}
 use mathlib.Core.Path.{_≡_, refl, sym, _∙_, ap, ap₂}
-use mathlib.Core.Logic.{_⊎_, inl, inr, ⊎-elim}
-use mathlib.Core.Bool.{Bool, true, false}
+use mathlib.Core.Logic.{⊎-elim}
+use mathlib.Core.Bool.{true, false}
 use mathlib.Core.List.{List, [], _∷_, _++_, List·Memᴰ, List·Memᴰ·head, List·Memᴰ·tail, List·Memᴰ·cases-cons, List·Memᴰ·not-nil, List·Memᴰ·append-cases}
 use native.Mathlib.Omega.{arith}
 use lib.IntN.{ℤ, pos, _+ℤ_, +ℤ-assoc, +ℤ-comm, +ℤ-idl}
@@ -16,7 +16,7 @@ use Rattle.elimination.specs.Rows.{Row, rowSum}
 use Rattle.elimination.specs.Divisors.{Pair, overlap, pairsWith, pairsOf, taken}
 use Rattle.elimination.specs.Elimination.{sameTerm, dropTerm, withoutPairs, newTerm, newTerms, rowAfter}
 use Rattle.elimination.proofs.Tests.{by-bool, by-test, clash}
-use Rattle.elimination.proofs.Same.{same-term, term-same, other-place, other-term}
+use Rattle.elimination.proofs.Same.{same-term, term-same, other-place}
 use Rattle.elimination.proofs.RowOrder.{Occurrence, with-member}
 use Rattle.elimination.proofs.Taken.{NoOverlap, no-overlap, taken-apart, taken-occurrence}
 

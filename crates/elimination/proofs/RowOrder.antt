@@ -1,12 +1,13 @@
 -- Two terms in row order need no ordering; and a row's pairs, as they stand, come by ascending co-divisor for each divisor.
 -- Assumes nothing.
-use Prim.Native.Nat.{ℕ, suc, _+_, _-_, _≤_, _<_, min}
+use Prim.Native.Nat.{ℕ, _+_, _-_, _≤_, _<_}
 use mathlib.Core.Path.{_≡_, refl, sym, _∙_, ap, ap₂}
 use mathlib.Core.Logic.{_⊎_, inl, inr, ⊎-elim}
-use mathlib.Core.Bool.{Bool, true, false, not, _&&_, _||_}
+use mathlib.Core.Bool.{Bool, true, false}
 use mathlib.Core.List.{List, [], _∷_, _++_, List·Memᴰ, List·Memᴰ·head, List·Memᴰ·tail, List·Memᴰ·cases-cons, List·Memᴰ·not-nil, List·Memᴰ·append-cases}
 use native.Mathlib.Omega.{arith}
 use lib.Dec.{eqb, ltb, leb}
+use lib.ListN.{getD}
 use borrow.Author.Tests.{le-ltb, ne-eqb, le-leb, leb-true, leb-false}
 use Rattle.term.specs.declared.Term.{Term}
 use Rattle.elimination.specs.declared.Divisor.{Divisor}
@@ -161,6 +162,9 @@ module _ (x : Pair) where
   unfolding byCoDivisor
   member-sorted [] m = m
   member-sorted (p ∷ ps) m = member-inserted p (byCoDivisor ps) (⊎-elim inl (λ k. inr (member-sorted ps k)) (List·Memᴰ·cases-cons m))
+
+abbrev pub rowAt : List Row → ℕ → Row
+rowAt rows i = getD rows i []
 
 -- x is an occurrence of d in r: a pair of r whose divisor is d
 pub record Occurrence (d : Divisor) (r : Row) (x : Pair) : Type 0 where

@@ -1,10 +1,8 @@
 -- What the tests of the definitions say: of the same place, the same term, the same divisor, and of order.
 -- Assumes nothing.
-use Prim.Native.Nat.{ℕ, _<_}
-use mathlib.Core.Path.{_≡_, refl, sym, _∙_, ap, ap₂}
-use mathlib.Core.Logic.{_⊎_, inl, inr, ⊎-elim}
-use mathlib.Core.Bool.{Bool, true, false, not, _&&_, _||_}
-use native.Mathlib.Omega.{arith}
+use mathlib.Core.Path.{_≡_, refl, sym, _∙_, ap}
+use mathlib.Core.Logic.{inl, inr, ⊎-elim, _↔_}
+use mathlib.Core.Bool.{Bool, true, false, _&&_}
 use lib.Dec.{eqb, ltb}
 use borrow.Author.Tests.{not-true, eqb-true, eq-eqb, ltb-true, lt-ltb}
 use Rattle.term.specs.declared.Term.{Term}
@@ -49,9 +47,6 @@ term-same t u e =
 pub other-place : (t u : Term) → samePlace t u ≡ false → sameTerm t u ≡ false
 other-place t u e = by-bool (sameTerm t u) (λ f. clash (and-left (samePlace t u) (sameSign (t .negative) (u .negative)) f) e) (λ f. f)
 
-pub other-term : (t u : Term) → sameTerm u t ≡ false → sameTerm t u ≡ false
-other-term t u n = by-bool (sameTerm t u) (λ e. clash (term-same u t (sym (same-term t u e))) n) (λ e. e)
-
 pub same-divisor : (d e : Divisor) → sameDivisor d e ≡ true → d ≡ e
 same-divisor d e h =
     let a : Bool = eqb (d .a) (e .a) in
@@ -75,11 +70,19 @@ divisor-same d e h = ap (λ x. sameDivisor x e) h ∙ self e
     self : (d : Divisor) → sameDivisor d d ≡ true
     self d = rw (eq-eqb (d .a) (d .a) refl, eq-eqb (d .b) (d .b) refl, eq-eqb (d .ea) (d .ea) refl, eq-eqb (d .eb) (d .eb) refl) (same-sign-self (d .minus))
 
-pub precedes-is : (t u : Term) → precedes t u ≡ true → Precedes t u
-precedes-is t u h = ⊎-elim
-    (λ l. inl (ltb-true (t .symbol) (u .symbol) l))
-    (λ r. inr (
-      eqb-true (t .symbol) (u .symbol) (and-left _ (ltb (t .exponent) (u .exponent)) r),
-      ltb-true (t .exponent) (u .exponent) (and-right (eqb (t .symbol) (u .symbol)) _ r),
-    ))
-    (or-cases (ltb (t .symbol) (u .symbol)) (eqb (t .symbol) (u .symbol) && ltb (t .exponent) (u .exponent)) h)
+-- the test of order is the order of a row
+pub precedes-is : (t u : Term) → (precedes t u ≡ true) ↔ Precedes t u
+precedes-is t u = (
+  (λ h. ⊎-elim
+      (λ l. inl (ltb-true (t .symbol) (u .symbol) l))
+      (λ r. inr (
+        eqb-true (t .symbol) (u .symbol) (and-left _ (ltb (t .exponent) (u .exponent)) r),
+        ltb-true (t .exponent) (u .exponent) (and-right (eqb (t .symbol) (u .symbol)) _ r),
+      ))
+      (or-cases (ltb (t .symbol) (u .symbol)) (eqb (t .symbol) (u .symbol) && ltb (t .exponent) (u .exponent)) h)),
+  (λ h. ⊎-elim
+      (λ l. or-left (ltb (t .symbol) (u .symbol)) (eqb (t .symbol) (u .symbol) && ltb (t .exponent) (u .exponent)) (lt-ltb (t .symbol) (u .symbol) l))
+      (λ r. or-right (ltb (t .symbol) (u .symbol)) (eqb (t .symbol) (u .symbol) && ltb (t .exponent) (u .exponent))
+      (and-both (eqb (t .symbol) (u .symbol)) (ltb (t .exponent) (u .exponent)) (eq-eqb (t .symbol) (u .symbol) (r .0)) (lt-ltb (t .exponent) (u .exponent) (r .1))))
+      h),
+)

@@ -1,16 +1,15 @@
 -- Taken occurrences never overlap, and no other choice without overlap takes more.
 -- Assumes nothing.
-use Prim.Native.Nat.{ℕ, zero, suc, _+_, _≤_, _<_}
+use Prim.Native.Nat.{ℕ, suc, _+_, _≤_}
 use mathlib.Core.Path.{_≡_, refl, sym, _∙_, ap}
 use mathlib.Core.Logic.{_⊎_, inl, inr, ⊎-elim}
 use mathlib.Core.Bool.{Bool, true, false, _||_}
 use mathlib.Core.List.{List, [], _∷_, List·Memᴰ, List·Memᴰ·head, List·Memᴰ·tail, List·Memᴰ·cases-cons, List·Memᴰ·not-nil}
 use native.Mathlib.Omega.{arith}
 use lib.ListN.{length}
-use Rattle.term.specs.declared.Term.{Term}
 use Rattle.elimination.specs.declared.Divisor.{Divisor}
 use Rattle.elimination.specs.Rows.{Row, Ascending, EachRow}
-use Rattle.elimination.specs.Divisors.{Pair, coDivisor, divisorOf, pairsOf, samePlace, overlap, overlapsAny, occurrences, taking, taken, score}
+use Rattle.elimination.specs.Divisors.{Pair, coDivisor, samePlace, overlap, overlapsAny, occurrences, taking, taken, score}
 use Rattle.elimination.proofs.Tests.{by-test, by-bool, clash, or-cases, or-left, or-right, or-no-left, or-no-right}
 use Rattle.elimination.proofs.Same.{SamePlace, same-place, place-same}
 use Rattle.elimination.proofs.RowOrder.{Placed, Occurrence, occurrence, all-occurrences, occurrence-placed, CoDivisorsRise, occurrences-rise}
@@ -76,11 +75,11 @@ no-overlap q p h =
     let h₂ : a || b ≡ false = or-no-left (a || b) c h₃ in
     (or-no-left a b h₂, or-no-right a b h₂, or-no-right (a || b) c h₃, or-no-right (a || b || c) d h)
 
-any-yes : (q p : Pair) (ps : List Pair) → overlap q p ≡ true → overlapsAny q (p ∷ ps) ≡ true
+pub any-yes : (q p : Pair) (ps : List Pair) → overlap q p ≡ true → overlapsAny q (p ∷ ps) ≡ true
 unfolding overlapsAny
 any-yes q p ps e = rw (e, overlapsAny)
 
-any-no : (q p : Pair) (ps : List Pair) → overlap q p ≡ false → overlapsAny q (p ∷ ps) ≡ overlapsAny q ps
+pub any-no : (q p : Pair) (ps : List Pair) → overlap q p ≡ false → overlapsAny q (p ∷ ps) ≡ overlapsAny q ps
 unfolding overlapsAny
 any-no q p ps e = rw (e, overlapsAny)
 
@@ -93,11 +92,11 @@ abbrev pub NoOverlap : List Pair → Type 0
 NoOverlap [] = Unit {0}
 NoOverlap (p ∷ ps) = ((x : Pair) → List·Memᴰ x ps → overlap x p ≡ false) × NoOverlap ps
 
-taking-yes : (before : List Pair) (p : Pair) (ps : List Pair) → overlapsAny p before ≡ true → taking before (p ∷ ps) ≡ taking before ps
+pub taking-yes : (before : List Pair) (p : Pair) (ps : List Pair) → overlapsAny p before ≡ true → taking before (p ∷ ps) ≡ taking before ps
 unfolding taking
 taking-yes before p ps e = rw (e, taking)
 
-taking-no : (before : List Pair) (p : Pair) (ps : List Pair) → overlapsAny p before ≡ false → taking before (p ∷ ps) ≡ p ∷ taking (p ∷ before) ps
+pub taking-no : (before : List Pair) (p : Pair) (ps : List Pair) → overlapsAny p before ≡ false → taking before (p ∷ ps) ≡ p ∷ taking (p ∷ before) ps
 unfolding taking
 taking-no before p ps e = rw (e, taking)
 

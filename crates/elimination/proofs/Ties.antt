@@ -2,18 +2,18 @@
 -- the pick, whatever way the pairs are gone through. Document 01's order is such an order.
 -- Assumes nothing.
 use Prim.Native.Nat.{ℕ, _≤_, _<_}
-use mathlib.Core.Path.{_≡_, refl, sym, _∙_, ap, ap₂}
-use mathlib.Core.Logic.{_⊎_, inl, inr, ⊎-elim}
-use mathlib.Core.Bool.{Bool, true, false, not, _&&_, _||_, true≢false, false≢true}
-use mathlib.Core.List.{List, [], _∷_, List·Memᴰ, List·Memᴰ·head, List·Memᴰ·tail, List·Memᴰ·cases-cons, List·Memᴰ·not-nil}
+use mathlib.Core.Path.{_≡_, refl, sym, _∙_, ap}
+use mathlib.Core.Logic.{_⊎_, inl, inr, ⊎-elim, _↔_}
+use mathlib.Core.Bool.{Bool, true, false, not, _&&_, true≢false, false≢true}
+use mathlib.Core.List.{List, [], _∷_, List·Memᴰ, List·Memᴰ·cases-cons, List·Memᴰ·not-nil}
 use native.Mathlib.Omega.{arith}
 use lib.Dec.{eqb, ltb}
-use borrow.Author.Tests.{eqb-true, eq-eqb, ltb-true, ltb-false, lt-ltb}
+use borrow.Author.Tests.{eqb-true, eq-eqb, ltb-true, ltb-false, lt-ltb, not-true}
 use Rattle.elimination.specs.declared.Divisor.{Divisor}
 use Rattle.elimination.specs.Rows.{Row}
 use Rattle.elimination.specs.Divisors.{Pair}
-use Rattle.elimination.specs.Elimination.{Scored, scored, better, bestFrom, bestOf, allPairs, noPairs, pick, smaller, before}
-use Rattle.elimination.proofs.Tests.{by-bool, clash, and-left, and-right, and-both, or-left, or-right, or-cases, or-no-left, or-no-right}
+use Rattle.elimination.specs.Elimination.{Scored, scored, better, bestFrom, bestOf, allPairs, pick, smaller, before}
+use Rattle.elimination.proofs.Tests.{by-bool, clash, and-left, and-right, and-both, or-left, or-right, or-cases, or-no-left}
 use Rattle.elimination.proofs.Pick.{better-yes, better-no, NotWorse, pick-is}
 
 pub record StrictTotal (first : Divisor → Divisor → Bool) : Type 0 where
@@ -103,7 +103,14 @@ module _ (first : Divisor → Divisor → Bool) (order : StrictTotal first) wher
         (λ e. e .2 ∙ same-divisors (scored rows (e .0)) (scored rows q) (rw (e .2) at (pick-first q m)) (h (e .0) (e .1)))
         (pick-is first rows)
 
--- ---- document 01's order
+-- ---- document 01's order: the smallest a, then b, then ea, then eb, then plus before minus
+
+-- in one of two pairs of numbers the first is smaller, or they are the same and what follows decides
+abbrev pub Smaller : ℕ → ℕ → Type 0 → Type 0
+Smaller x y Otherwise = (x < y) ⊎ ((x ≡ y) × Otherwise)
+
+abbrev pub Before : Divisor → Divisor → Type 0
+Before d e = Smaller (d .a) (e .a) (Smaller (d .b) (e .b) (Smaller (d .ea) (e .ea) (Smaller (d .eb) (e .eb) ((d .minus ≡ false) × (e .minus ≡ true)))))
 
 smaller-yes : (x y : ℕ) (b : Bool) → smaller x y b ≡ true → (x < y) ⊎ ((x ≡ y) × (b ≡ true))
 smaller-yes x y b h = ⊎-elim
@@ -134,6 +141,20 @@ smaller-total x y b c f h = by-bool (eqb x y)
   where
     above : {x y : ℕ} → y ≤ x → (x ≡ y → ⊥) → y < x
     above l n = omega arith
+
+smaller-as : {Q : Type 0} (x y : ℕ) (b : Bool) → (b ≡ true → Q) → smaller x y b ≡ true → Smaller x y Q
+smaller-as x y b f h = ⊎-elim inl (λ r. inr (r .0, f (r .1))) (smaller-yes x y b h)
+
+as-smaller : {Q : Type 0} (x y : ℕ) (b : Bool) → (Q → b ≡ true) → Smaller x y Q → smaller x y b ≡ true
+as-smaller x y b f h = yes-smaller x y b (⊎-elim inl (λ r. inr (r .0, f (r .1))) h)
+
+pub before-is : (d e : Divisor) → (before d e ≡ true) ↔ Before d e
+before-is d e = (
+  smaller-as (d .a) (e .a) _ (smaller-as (d .b) (e .b) _ (smaller-as (d .ea) (e .ea) _ (smaller-as (d .eb) (e .eb) _
+      (λ h. (not-true (d .minus) (and-left (not (d .minus)) (e .minus) h), and-right (not (d .minus)) (e .minus) h))))),
+  as-smaller (d .a) (e .a) _ (as-smaller (d .b) (e .b) _ (as-smaller (d .ea) (e .ea) _ (as-smaller (d .eb) (e .eb) _
+      (λ h. and-both (not (d .minus)) (e .minus) (ap not (h .0)) (h .1))))),
+)
 
 plus-first-self : (m : Bool) → not m && m ≡ false
 plus-first-self true = refl

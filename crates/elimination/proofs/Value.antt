@@ -1,6 +1,6 @@
 -- A step keeps each row's value, for any values of the symbols under which the new symbol has its divisor's value.
 -- Assumes nothing.
-use Prim.Native.Nat.{ℕ, zero, suc, _+_, _-_, _^_, _≤_, min}
+use Prim.Native.Nat.{ℕ, suc, _-_, _^_, _≤_}
 use mathlib.Core.Path.{_≡_, refl, sym, _∙_, ap, ap₂}
 use mathlib.Core.Bool.{Bool, true, false, not}
 use mathlib.Core.List.{List, [], _∷_, map}
@@ -10,20 +10,16 @@ use lib.IntN.{ℤ, pos, negℤ, _+ℤ_, _*ℤ_, +ℤ-comm, negℤ-+ℤ, negℤ-n
 use Rattle.integers.proofs.Ring.{*-+, *-assoc, *-neg}
 use Rattle.term.specs.declared.Term.{Term}
 use Rattle.elimination.specs.declared.Divisor.{Divisor}
-use Rattle.elimination.specs.Rows.{Row, signed, termValue, rowSum, rowValue}
-use Rattle.elimination.specs.Divisors.{Pair, coDivisor, lowered, withoutCoDivisor, precedes, inOrder, firstPositive, readOff, divisorOf, signOf, divisorValue, score}
+use Rattle.elimination.specs.Rows.{Row, signed, termValue, rowValue}
+use Rattle.elimination.specs.Divisors.{Pair, coDivisor, lowered, withoutCoDivisor, precedes, inOrder, firstPositive, readOff, divisorOf, signOf, divisorValue}
 use Rattle.elimination.specs.Elimination.{newTerm, rowAfter, rowsAfter}
 use Rattle.elimination.specs.Steps.{Steps, end, step}
-use Rattle.elimination.proofs.Tests.{by-test, by-bool}
+use Rattle.elimination.proofs.Tests.{by-test}
 use Rattle.elimination.proofs.Replaced.{sum-after}
 
 times-signed : (c : ℤ) (n : Bool) (z : ℤ) → c *ℤ signed n z ≡ signed n (c *ℤ z)
 times-signed c false z = refl
 times-signed c true z = *-neg c z
-
-signed-plus : (n : Bool) (x y : ℤ) → signed n (x +ℤ y) ≡ signed n x +ℤ signed n y
-signed-plus false x y = refl
-signed-plus true x y = negℤ-+ℤ x y
 
 turned-back : (m : Bool) (z : ℤ) → negℤ (signed (not m) z) ≡ signed m z
 turned-back true z = refl

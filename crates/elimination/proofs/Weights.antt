@@ -1,34 +1,27 @@
 -- A row's weight stays as it was, and each divisor, shifted, is part of a row: so no divisor's weight is above the bound of the
 -- first rows, which is 43,690 for a column of a matrix over 16 positions. Values are at most as large as weights.
 -- Assumes nothing.
-use Prim.Native.Nat.{ℕ, zero, suc, _+_, _*_, _-_, _^_, _≤_, _<_, min}
-use mathlib.Core.Path.{_≡_, refl, sym, _∙_, ap, ap₂, subst}
-use mathlib.Core.Logic.{_⊎_, inl, inr, ⊎-elim}
+use Prim.Native.Nat.{ℕ, suc, _+_, _*_, _-_, _^_, _≤_}
+use mathlib.Core.Path.{_≡_, refl, sym, _∙_, ap, ap₂}
+use mathlib.Core.Logic.{⊎-elim}
 use mathlib.Core.Bool.{Bool, true, false}
-use mathlib.Core.List.{List, [], _∷_, _++_, map, List·Memᴰ, List·Memᴰ·cases-cons, List·Memᴰ·not-nil}
+use mathlib.Core.List.{List, [], _∷_, map, List·Memᴰ, List·Memᴰ·cases-cons, List·Memᴰ·not-nil}
 use native.Mathlib.Omega.{arith}
-use native.Mathlib.Nat.{mul-assoc, mul-add, add-comm, mul-le-mul, add-mul}
-use lib.Dec.{eqb}
-use lib.IntN.{ℤ, pos, negsuc, negℤ, natAbs, _+ℤ_, _*ℤ_}
-use lib.ListN.{length}
+use native.Mathlib.Nat.{mul-assoc, mul-add, add-comm, mul-le-mul}
+use lib.IntN.{pos, natAbs, _+ℤ_}
 use lib.Pow.{pow-add, pow-pos}
-use borrow.Author.Tests.{eqb-true, eqb-false}
-use Rattle.integers.proofs.Size.{abs-+, abs-neg, abs-*}
 use Rattle.term.specs.declared.Term.{Term}
-use Rattle.digits.specs.Digits.{digits, powersFrom}
-use Rattle.digits.proofs.Powers.{digits-powers}
 use Rattle.elimination.specs.declared.Divisor.{Divisor}
-use Rattle.elimination.specs.Rows.{Row, signed, termValue, rowSum, rowValue, columnTerms, rowFrom, matrixRows, EachRow}
-use Rattle.elimination.specs.Divisors.{Pair, coDivisor, lowered, withoutCoDivisor, precedes, inOrder, firstPositive, readOff, divisorOf, divisorValue, pairsOf, score}
+use Rattle.elimination.specs.Rows.{Row, rowSum, EachRow}
+use Rattle.elimination.specs.Divisors.{Pair, coDivisor, lowered, withoutCoDivisor, precedes, inOrder, firstPositive, readOff, divisorOf, score}
 use Rattle.elimination.specs.Elimination.{sameTerm, dropTerm, newTerm, rowAfter, rowsAfter}
 use Rattle.elimination.specs.Steps.{Steps, end, step}
-use Rattle.elimination.specs.Weights.{termWeight, rowWeight, divisorWeight, Weights, ColumnWeight}
+use Rattle.elimination.specs.Weights.{termWeight, rowWeight, divisorWeight, Weights}
 use Rattle.elimination.proofs.Tests.{by-test, by-bool, clash}
 use Rattle.elimination.proofs.Same.{same-term, term-same}
 use Rattle.elimination.proofs.RowOrder.{Occurrence}
-use Rattle.elimination.proofs.Replaced.{drop-yes, drop-no, bothOut, pair-inside, sum-after}
-use Rattle.elimination.proofs.Order.{Columns, Occurs, score-occurs, each-row}
-use Rattle.elimination.proofs.Value.{Values}
+use Rattle.elimination.proofs.Replaced.{drop-yes, drop-no, pair-inside, sum-after}
+use Rattle.elimination.proofs.Order.{score-occurs, each-row}
 
 module _ (w : ℕ → ℕ) where
   -- ---- the weight of a pair, and what it becomes

@@ -123,9 +123,12 @@ eliminate order (suc fuel) symbol made rows =
     ]
 
 -- a step takes at least two terms away, so there are fewer steps than the plain count
+abbrev pub enoughSteps : List Row → ℕ
+enoughSteps rows = plainCount rows
+
 unfoldable pub elimination : TieOrder → ℕ → List Row → Eliminated
 unfolding eliminate plainCount
-elimination order inputs rows = eliminate order (plainCount rows) inputs [] rows
+elimination order inputs rows = eliminate order (enoughSteps rows) inputs [] rows
 
 -- of a matrix with a number of columns, over a number of digit positions, by document 01's order
 unfoldable pub matrixElimination : ℕ → ℕ → List (List ℤ) → Eliminated

@@ -1,5 +1,6 @@
 pub mod Rows
 pub mod Divisors
+pub mod Visit
 pub mod RowOrder
 pub mod Elimination
 pub mod Steps

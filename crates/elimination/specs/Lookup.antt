@@ -1,9 +1,11 @@
 -- Document 01, "Elimination", as code works it out: by looking up the sign of a symbol and exponent in a row, co-divisor by co-divisor.
 -- These are second definitions: on rows in order they agree with those of `Divisors` and `Elimination`, by the laws of proofs/.
 -- Assumes nothing.
-use Prim.Native.Nat.{ℕ, zero, suc, _+_, _-_}
+use Prim.Native.Nat.{ℕ, zero, suc, _+_, _-_, _<_, min}
+use mathlib.Core.Path.{_≡_}
+use mathlib.Core.Logic.{_⊎_}
 use mathlib.Core.Bool.{Bool, true, false, not, _&&_, _||_}
-use mathlib.Core.List.{List, [], _∷_, _++_, map}
+use mathlib.Core.List.{List, [], _∷_, _++_, map, List·Memᴰ}
 use lib.Dec.{leb, eqb}
 use lib.ListN.{getD}
 use Rattle.term.specs.declared.Term.{Term}
@@ -11,6 +13,18 @@ use Rattle.elimination.specs.declared.Divisor.{Divisor}
 use Rattle.elimination.specs.Rows.{Row}
 use Rattle.elimination.specs.Divisors.{Pair, sameSign, divisorOf}
 use Rattle.elimination.specs.Elimination.{Scored, better, noPairs, allPairs}
+
+-- ---- the rows and divisors of which the definitions below agree with the others
+
+-- the exponents of a row are below a number of digit positions
+abbrev pub ExponentsBelow : ℕ → Row → Type 0
+ExponentsBelow positions r = (t : Term) → List·Memᴰ t r → t .exponent < positions
+
+-- what the divisor of two terms of a row is: its smaller exponent is 0, and its terms are in order; so if a and b are one symbol,
+-- then ea is 0 and eb is not
+pub record Proper (d : Divisor) : Type 0 where
+  pub lowest : min (d .ea) (d .eb) ≡ 0
+  pub ordered : (d .a < d .b) ⊎ ((d .a ≡ d .b) × (d .ea < d .eb))
 
 -- ---- the sign of the term with a symbol and an exponent: 0 there is none, 1 plus, 2 minus
 
@@ -44,6 +58,19 @@ overlapsTaken d flags c = eqb (d .a) (d .b) && (leb (d .eb) c && getD flags (c -
 unfoldable pub takenFlags : Signs → Divisor → ℕ → List Bool
 takenFlags signs d zero = []
 takenFlags signs d (suc c) = let flags = takenFlags signs d c in flags ++ ((occursAt signs d c && not (overlapsTaken d flags c)) ∷ [])
+
+-- the term with a symbol and an exponent, and the occurrence with a co-divisor, where there is one
+abbrev pub termAt : Signs → ℕ → ℕ → Term
+termAt signs symbol exponent = record { symbol = symbol; exponent = exponent; negative = eqb (signs symbol exponent) 2 }
+
+abbrev pub pairAt : Signs → Divisor → ℕ → Pair
+pairAt signs d c = record { first = termAt signs (d .a) (d .ea + c); second = termAt signs (d .b) (d .eb + c) }
+
+-- the occurrences at the flagged co-divisors, from a co-divisor on
+unfoldable pub pairsFrom : Signs → Divisor → ℕ → List Bool → List Pair
+pairsFrom signs d c [] = []
+pairsFrom signs d c (true ∷ flags) = pairAt signs d c ∷ pairsFrom signs d (suc c) flags
+pairsFrom signs d c (false ∷ flags) = pairsFrom signs d (suc c) flags
 
 unfoldable pub countTrue : List Bool → ℕ
 countTrue [] = 0

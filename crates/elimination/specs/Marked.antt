@@ -2,12 +2,12 @@
 -- Assumes nothing.
 use Prim.Native.Nat.{ℕ}
 use mathlib.Core.Path.{_≡_}
-use mathlib.Core.Bool.{false}
+use mathlib.Core.Bool.{Bool, true, false}
 use mathlib.Core.List.{List, [], _∷_, map}
 use lib.IntN.{ℤ, pos, negsuc}
 use lib.ListN.{length}
 use Rattle.elimination.specs.declared.Divisor.{Divisor}
-use Rattle.elimination.specs.Rows.{Row, rowFrom, matrixRows, plainCount}
+use Rattle.elimination.specs.Rows.{rowFrom, matrixRows, plainCount}
 use Rattle.elimination.specs.Divisors.{coDivisor, taken}
 use Rattle.elimination.specs.Elimination.{Eliminated, before, pick, matrixElimination}
 
@@ -38,6 +38,16 @@ fourByFour =
 abbrev pub eliminatedFour : Eliminated
 eliminatedFour = matrixElimination 16 4 fourByFour
 
+-- row 3, −3, which the program list-bank prints
+abbrev pub threeMinusThree : List (List ℤ)
+threeMinusThree = (pos 3 ∷ negsuc 2 ∷ []) ∷ []
+
+abbrev pub eliminatedThree : Eliminated
+eliminatedThree = matrixElimination 16 2 threeMinusThree
+
+abbrev pub unshifted : ℕ → ℕ → Bool → Divisor
+unshifted a b minus = record { a = a; b = b; ea = 0; eb = 0; minus = minus }
+
 pub record MarkedElimination : Type 0 where
   pub score-21 : pick before (matrixRows 16 (single 21)) .score ≡ 1
   pub divisors-21 : eliminatedSingle 21 .divisors ≡ []
@@ -48,3 +58,9 @@ pub record MarkedElimination : Type 0 where
   pub plain-four : plainCount (matrixRows 16 fourByFour) ≡ 12
   pub divisors-four : length (eliminatedFour .divisors) ≡ 4
   pub replacements-four : eliminatedFour .replacements ≡ 8
+  pub plain-three : plainCount (matrixRows 16 threeMinusThree) ≡ 3
+  -- x0 − x1, which stands in the row once as x1 − x0
+  pub divisors-three : eliminatedThree .divisors ≡ unshifted 0 1 true ∷ []
+  pub replacements-three : eliminatedThree .replacements ≡ 2
+  -- all four have score 2, so it is the order among equal scores that picks them: x0 + x3, x0 − x3, x1 + x2, x1 − x2
+  pub ties-four : eliminatedFour .divisors ≡ unshifted 0 3 false ∷ unshifted 0 3 true ∷ unshifted 1 2 false ∷ unshifted 1 2 true ∷ []

@@ -1,7 +1,7 @@
 -- Document 01, "Elimination": any sequence of steps, each of which takes some divisor of score at least 2 and replaces its taken
 -- occurrences. Elimination is the sequence whose divisors are picked.
 -- Assumes nothing.
-use Prim.Native.Nat.{ℕ, zero, suc, _+_, _≤_}
+use Prim.Native.Nat.{ℕ, suc, _+_, _≤_}
 use mathlib.Core.List.{List, [], _∷_}
 use Rattle.elimination.specs.declared.Divisor.{Divisor}
 use Rattle.elimination.specs.Rows.{Row}

@@ -1,7 +1,7 @@
 -- Document 01, "Netlist and board machine", where compiled widths are at most 35: weights of the symbols, as if no sign were minus.
 -- An input has weight 1 in its own column, and a divisor's symbol the weight of its divisor.
 -- Assumes nothing.
-use Prim.Native.Nat.{ℕ, zero, suc, _+_, _*_, _^_, _<_}
+use Prim.Native.Nat.{ℕ, suc, _+_, _*_, _^_, _<_}
 use mathlib.Core.Path.{_≡_}
 use mathlib.Core.List.{List, [], _∷_}
 use Rattle.term.specs.declared.Term.{Term}

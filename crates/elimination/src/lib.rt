@@ -12,7 +12,7 @@ pub struct Divisor {
 }
 
 impl Divisor {
-    // plus before minus
+    // the first field of the divisor's operation: 0 add, 1 subtract
     pub fn sign(self) -> u8
         ensures { λ r. ⌜ r ≡ cond (self .minus) 1 0 ⌝ }
     {
