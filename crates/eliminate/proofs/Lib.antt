@@ -1,0 +1,6 @@
+pub mod Filled
+pub mod Members
+pub mod Places
+pub mod SignTable
+pub mod Scoring
+pub mod Picking

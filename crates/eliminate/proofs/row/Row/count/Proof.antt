@@ -1,0 +1,23 @@
+-- `eliminate::row::Row::count` meets its contract. Assumes nothing.
+use mathlib.Core.Path.{_≡_}
+use borrow.Author.Needs.{needs}
+use lib.ListN.{length-map}
+use Rattle.eliminate.specs.State.{rowTerms}
+use Rattle.eliminate.proofs.Filled.{filled-under, filled-whole}
+use Rattle.eliminate.proofs.row.Row.count.Statement.{statement}
+use Rattle.eliminate.proofs.row.Row.count.Tie as tie
+
+returns : tie.Need-returns
+unfolding rowTerms
+returns c =
+    let row = c .before .before .args .self in
+    filled-under (row .terms) (row .count) 64 (simp length-map at (c .before .before .good .0 .1 .1 .0 .1 .0 .1)) (c .if1 .taken)
+
+returns-2 : tie.Need-returns-2
+unfolding rowTerms
+returns-2 c =
+    let row = c .before .before .args .self in
+    filled-whole (row .terms) (row .count) 64 (simp length-map at (c .before .before .good .0 .1 .1 .0 .1 .0 .1)) (c .if1 .left)
+
+pub count-spec : {M : Type 1} → statement M
+count-spec = tie.close (tie.spec returns returns-2)

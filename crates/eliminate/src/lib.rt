@@ -1,0 +1,6 @@
+// Document 01, "Elimination", carried out: the rows state and the elimination step, proved equal to the definitions of `elimination`.
+pub mod row; // row.rt: a row of terms
+pub mod rows; // rows.rt: the rows state
+pub mod signs; // signs.rt: the table of signs
+pub mod score; // score.rt: what is taken, and the score
+pub mod pick; // pick.rt: the pick
