@@ -3,3 +3,4 @@ pub mod Compile
 pub mod Limits
 pub mod Compiled
 pub mod Marked
+pub mod Lists

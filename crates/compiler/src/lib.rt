@@ -1,4 +1,7 @@
 // Document 01, "Netlist and board machine": compile, from a matrix record to the netlist's bytes.
+pub mod divisors; // divisors.rt: the divisors, by value
+pub mod operations; // operations.rt: the operations, by value
+pub mod outputs; // outputs.rt: the outputs, by value
 
 // What compile returns: a refusal and its place, or the bytes written and the counts.
 pub struct CompileAnswer {
