@@ -4,3 +4,6 @@ pub mod Places
 pub mod SignTable
 pub mod Scoring
 pub mod Picking
+pub mod Stepping
+pub mod Ready
+pub mod Columns

@@ -1,18 +1,24 @@
 -- The order among equal scores, the divisor of two terms in row order, and the best of pairs, as the functions work them out.
 -- Assumes nothing.
-use Prim.Native.Nat.{ℕ, _-_, _≤_, _<_, min}
+use Prim.Native.Nat.{ℕ, _+_, _-_, _≤_, _<_, min}
 use mathlib.Core.Path.{_≡_, refl, sym, ap, _∙_}
-use mathlib.Core.Bool.{Bool, true, false, not, _&&_, _||_, Bool·beq, or-false}
+use mathlib.Core.Bool.{Bool, true, false, not, _&&_, Bool·beq, or-false}
+use mathlib.Core.List.{List, [], _∷_, _++_}
 use native.Mathlib.Omega.{arith}
-use borrow.Author.Tests.{eq-eqb, ne-eqb, le-ltb, lt-ltb}
-use lib.Dec.{eqb, ltb}
+use borrow.Author.Tests.{eq-eqb, ne-eqb, le-ltb}
+use lib.Dec.{ltb}
+use lib.ListN.{length, getD, drop}
 use Rattle.term.specs.declared.Term.{Term}
 use Rattle.elimination.specs.declared.Divisor.{Divisor}
-use Rattle.elimination.specs.Rows.{Precedes}
+use Rattle.elimination.specs.Rows.{Row, Precedes}
 use Rattle.elimination.specs.RowOrder.{differ}
-use Rattle.elimination.specs.Divisors.{Pair, divisorOf}
-use Rattle.elimination.specs.Elimination.{smaller, before}
+use Rattle.elimination.specs.Divisors.{Pair, divisorOf, pairsWith, pairsOf}
+use Rattle.elimination.specs.Elimination.{Scored, smaller, before, better, allPairs}
+use Rattle.elimination.specs.Lookup.{Signs, lookupScored, lookupBest}
+use Rattle.elimination.proofs.Tests.{by-bool}
 use Rattle.elimination.proofs.RowOrder.{divisor-in-order}
+use Rattle.eliminate.specs.Pick.{betterOf}
+use Rattle.eliminate.proofs.Members.{left-next, left-none}
 
 -- ---- the order
 
@@ -44,3 +50,63 @@ module _ (t u : Term) (a b te ue low : ℕ) (x y : Bool) where
       → _≡_ {A = Divisor} (record { a = a; b = b; ea = te - low; eb = ue - low; minus = not (Bool·beq x y) }) (divisorOf (record { first = t; second = u }))
   divisor-worked ha hb he hf hl hx hy p =
       rw (hl, ha, hb, he, hf, hx, hy, not-same (t .negative) (u .negative)) (sym (divisor-in-order (record { first = t; second = u }) p))
+
+-- ---- the better of two, and the best of pairs
+
+module _ (s t : Scored) where
+  pub better-same : s .score ≡ t .score → before (s .divisor) (t .divisor) ≡ better before s t
+  better-same h = rw (eq-eqb (s .score) (t .score) h, le-ltb (t .score) (s .score) (omega arith))
+
+  pub better-differ : (s .score ≡ t .score → ⊥) → ltb (t .score) (s .score) ≡ better before s t
+  better-differ h = rw (ne-eqb (s .score) (t .score) h) (sym (or-false (ltb (t .score) (s .score))))
+
+  pub better-yes : better before t s ≡ true → t ≡ betterOf s t
+  better-yes h = sym (ap (λ (b : Bool). elim b [ true ↦ t | false ↦ s ]) h)
+
+  pub better-no : better before t s ≡ false → s ≡ betterOf s t
+  better-no h = sym (ap (λ (b : Bool). elim b [ true ↦ t | false ↦ s ]) h)
+
+module _ (positions : ℕ) (signs : List Signs) where
+  abbrev best : Scored → List Pair → Scored
+  best s ps = lookupBest positions before signs s ps
+
+  best-cons : (s : Scored) (p : Pair) (ps : List Pair) → best s (p ∷ ps) ≡ best (betterOf s (lookupScored positions signs (divisorOf p))) ps
+  unfolding lookupBest
+  best-cons s p ps =
+      let t : Scored = lookupScored positions signs (divisorOf p) in
+      by-bool (better before t s)
+      (λ y. rw (y, lookupBest) (ap (λ (x : Scored). best x ps) (better-yes s t y)))
+      (λ n. rw (n, lookupBest) (ap (λ (x : Scored). best x ps) (better-no s t n)))
+
+  best-append : (s : Scored) (ps qs : List Pair) → best s (ps ++ qs) ≡ best (best s ps) qs
+  best-append s [] qs = unfold lookupBest in refl
+  best-append s (p ∷ ps) qs =
+      let t : Scored = lookupScored positions signs (divisorOf p) in
+      best-cons s p (ps ++ qs) ∙ best-append (betterOf s t) ps qs ∙ ap (λ (x : Scored). best x qs) (sym (best-cons s p ps))
+
+  pub with-next : (t : Term) (r : Row) (j : ℕ) (d : Term) (s : Scored) → j < length r
+      → best s (pairsWith t (drop j r)) ≡ best (betterOf s (lookupScored positions signs (divisorOf (record { first = t; second = getD r j d })))) (pairsWith t (drop (j + 1) r))
+  unfolding pairsWith
+  with-next t r j d s h = ap (λ (l : Row). best s (pairsWith t l)) (left-next r j d h) ∙ best-cons s (record { first = t; second = getD r j d }) (pairsWith t (drop (j + 1) r))
+
+  pub with-end : (t : Term) (r : Row) (j : ℕ) (s : Scored) → length r ≤ j → best s (pairsWith t (drop j r)) ≡ s
+  unfolding pairsWith lookupBest
+  with-end t r j s h = ap (λ (l : Row). best s (pairsWith t l)) (left-none r j h)
+
+  pub row-next : (r : Row) (i : ℕ) (d : Term) (s : Scored) → i < length r
+      → best s (pairsOf (drop i r)) ≡ best (best s (pairsWith (getD r i d) (drop (i + 1) r))) (pairsOf (drop (i + 1) r))
+  unfolding pairsOf
+  row-next r i d s h = ap (λ (l : Row). best s (pairsOf l)) (left-next r i d h) ∙ best-append s (pairsWith (getD r i d) (drop (i + 1) r)) (pairsOf (drop (i + 1) r))
+
+  pub row-end : (r : Row) (i : ℕ) (s : Scored) → length r ≤ i → best s (pairsOf (drop i r)) ≡ s
+  unfolding pairsOf lookupBest
+  row-end r i s h = ap (λ (l : Row). best s (pairsOf l)) (left-none r i h)
+
+  pub rows-next : (rows : List Row) (i : ℕ) (s : Scored) → i < length rows
+      → best s (allPairs (drop i rows)) ≡ best (best s (pairsOf (getD rows i []))) (allPairs (drop (i + 1) rows))
+  unfolding allPairs
+  rows-next rows i s h = ap (λ (l : List Row). best s (allPairs l)) (left-next rows i [] h) ∙ best-append s (pairsOf (getD rows i [])) (allPairs (drop (i + 1) rows))
+
+  pub rows-end : (rows : List Row) (i : ℕ) (s : Scored) → length rows ≤ i → best s (allPairs (drop i rows)) ≡ s
+  unfolding allPairs lookupBest
+  rows-end rows i s h = ap (λ (l : List Row). best s (allPairs l)) (left-none rows i h)

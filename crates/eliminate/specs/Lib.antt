@@ -1,2 +1,4 @@
 pub mod State
 pub mod Signs
+pub mod Pick
+pub mod Step

@@ -2,7 +2,7 @@
 -- It has a place for each row, each symbol below a limit, and each of a number of positions.
 -- Assumes nothing.
 use Prim.Native.Nat.{ℕ, zero, suc, _+_, _*_, _<_}
-use mathlib.Core.Bool.{Bool, true, false, _&&_}
+use mathlib.Core.Bool.{true, false, _&&_}
 use mathlib.Core.List.{List, [], _∷_, List·Memᴰ}
 use lib.Dec.{ltb}
 use lib.ListN.{getD, set, replicate}

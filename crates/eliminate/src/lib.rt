@@ -4,3 +4,4 @@ pub mod rows; // rows.rt: the rows state
 pub mod signs; // signs.rt: the table of signs
 pub mod score; // score.rt: what is taken, and the score
 pub mod pick; // pick.rt: the pick
+pub mod step; // step.rt: the elimination step

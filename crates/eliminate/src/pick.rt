@@ -1,10 +1,26 @@
 // Document 01, "Elimination": the pick. Rests on `score`.
+use crate::row::Row;
+use crate::rows::Rows;
+use crate::score;
+use crate::signs::SIZE;
 use elimination::Divisor;
 use term::Term;
 ghost use mathlib.Core.Path.{_≡_};
-ghost use Rattle.elimination.specs.Rows.{Precedes};
-ghost use Rattle.elimination.specs.Divisors.{divisorOf};
-ghost use Rattle.elimination.specs.Elimination.{before};
+ghost use Prim.Native.Nat.{_+_, _<_, _≤_};
+ghost use lib.ListN.{length, drop, getD};
+ghost use Rattle.elimination.specs.Rows.{Precedes, Ascending};
+ghost use Rattle.elimination.specs.Divisors.{divisorOf, pairsWith, pairsOf};
+ghost use Rattle.elimination.specs.Elimination.{before, better, noPairs, allPairs};
+ghost use Rattle.elimination.specs.Lookup.{lookupScored, lookupBest};
+ghost use Rattle.eliminate.specs.State.{noTerm, rowTerms, rowsTerms};
+ghost use Rattle.eliminate.specs.Signs.{Placed, rowsSignsFrom};
+ghost use Rattle.eliminate.specs.Pick.{scoredOf, betterOf};
+
+// A divisor and its score.
+pub struct Best {
+    pub divisor: Divisor,
+    pub score: usize,
+}
 
 // Ties go to the smallest a, then b, then ea, then eb, then plus before minus.
 fn comes_before(d: Divisor, e: Divisor) -> bool
@@ -43,4 +59,94 @@ fn divisor_of(t: Term, u: Term) -> Divisor
         eb: ue - low,
         minus: t.negative() != u.negative(),
     }
+}
+
+// The higher score, and of equal scores the first in order.
+fn better(s: Best, t: Best) -> bool
+    ensures { λ r. ⌜ r ≡ better before (scoredOf s) (scoredOf t) ⌝ }
+{
+    if s.score == t.score {
+        return comes_before(s.divisor, t.divisor);
+    }
+    t.score < s.score
+}
+
+fn better_of(s: Best, t: Best) -> Best
+    ensures { λ r. ⌜ scoredOf r ≡ betterOf (scoredOf s) (scoredOf t) ⌝ }
+{
+    if better(t, s) {
+        return t;
+    }
+    s
+}
+
+// The divisor of two terms of a row with its score in the first m rows.
+fn scored(signs: &[u8; SIZE], m: usize, t: Term, u: Term) -> Best
+    requires { ⌜ (m ≤ 8) × Precedes t u ⌝ }
+    ensures { λ r. ⌜ scoredOf r ≡ lookupScored 16 (rowsSignsFrom 260 16 (now (signs .entry)) 0 m) (divisorOf (record { first = t; second = u })) ⌝ }
+{
+    let divisor = divisor_of(t, u);
+    let n = score::score(signs, m, divisor);
+    Best { divisor, score: n }
+}
+
+// The best of what is found so far and the pairs of the term at i with each behind it.
+fn best_with(signs: &[u8; SIZE], m: usize, row: Row, i: usize, start: Best) -> Best
+    requires { ⌜ (m ≤ 8) × Ascending (rowTerms row) × (i < length (rowTerms row)) ⌝ }
+    ensures { λ r. ⌜ scoredOf r ≡ lookupBest 16 before (rowsSignsFrom 260 16 (now (signs .entry)) 0 m) (scoredOf start) (pairsWith (getD (rowTerms row) i noTerm) (drop (i + 1) (rowTerms row))) ⌝ }
+{
+    let count = row.count();
+    let t = row.term(i);
+    let mut best = start;
+    let mut j = i + 1;
+    while j < count {
+        let u = row.term(j);
+        best = better_of(best, scored(signs, m, t, u));
+        j += 1;
+    }
+    best
+}
+
+// And all pairs of a row.
+fn best_in_row(signs: &[u8; SIZE], m: usize, row: Row, start: Best) -> Best
+    requires { ⌜ (m ≤ 8) × Ascending (rowTerms row) ⌝ }
+    ensures { λ r. ⌜ scoredOf r ≡ lookupBest 16 before (rowsSignsFrom 260 16 (now (signs .entry)) 0 m) (scoredOf start) (pairsOf (rowTerms row)) ⌝ }
+{
+    let count = row.count();
+    let mut best = start;
+    let mut i = 0;
+    while i < count {
+        best = best_with(signs, m, row, i, best);
+        i += 1;
+    }
+    best
+}
+
+// No pairs at all count as a highest score below 2.
+fn no_pairs() -> Best
+    ensures { λ r. ⌜ scoredOf r ≡ noPairs ⌝ }
+{
+    let divisor = Divisor {
+        a: 0,
+        b: 0,
+        ea: 0,
+        eb: 0,
+        minus: false,
+    };
+    Best { divisor, score: 0 }
+}
+
+// And all pairs of all rows.
+pub fn best_in_rows(signs: &[u8; SIZE], rows: Rows) -> Best
+    requires { ⌜ (length (rowsTerms rows) ≤ 8) × Placed 260 16 (rowsTerms rows) ⌝ }
+    ensures { λ r. ⌜ scoredOf r ≡ lookupBest 16 before (rowsSignsFrom 260 16 (now (signs .entry)) 0 (length (rowsTerms rows))) noPairs (allPairs (rowsTerms rows)) ⌝ }
+{
+    let m = rows.m();
+    let mut best = no_pairs();
+    let mut i = 0;
+    while i < m {
+        best = best_in_row(signs, m, rows.row(i), best);
+        i += 1;
+    }
+    best
 }

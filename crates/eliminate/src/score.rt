@@ -1,17 +1,17 @@
 // Document 01, "Elimination": what is taken of a divisor, co-divisor by co-divisor, and its score. Rests on `signs`.
 use crate::signs;
 use crate::signs::SIZE;
+use digits::POSITIONS;
 use elimination::Divisor;
 ghost use mathlib.Core.Path.{_≡_};
 ghost use mathlib.Core.Bool.{not, _&&_};
-ghost use Prim.Native.Nat.{_+_, _*_, _<_, _≤_};
-ghost use lib.ListN.{length};
+ghost use Prim.Native.Nat.{_+_, _<_, _≤_, max};
 ghost use Rattle.elimination.specs.Lookup.{occursAt, overlapsTaken, takenFlags, countTrue, lookupScore};
 ghost use Rattle.eliminate.specs.Signs.{tableSigns, rowsSignsFrom};
 
 // Which co-divisors' occurrences are taken, and how many.
 pub struct Taken {
-    pub flags: [bool; 16],
+    pub flags: [bool; POSITIONS],
     pub count: usize,
 }
 
@@ -35,7 +35,7 @@ fn occurs(signs: &[u8; SIZE], row: usize, d: Divisor, c: usize) -> bool
 }
 
 // An earlier occurrence that is taken has this one's first term as its second.
-fn overlaps(flags: [bool; 16], d: Divisor, c: usize) -> bool
+fn overlaps(flags: [bool; POSITIONS], d: Divisor, c: usize) -> bool
     requires { ⌜ c < 16 ⌝ }
     ensures { λ r. ⌜ r ≡ overlapsTaken d flags c ⌝ }
 {
@@ -49,7 +49,8 @@ fn overlaps(flags: [bool; 16], d: Divisor, c: usize) -> bool
     flags[c - eb]
 }
 
-fn takes(signs: &[u8; SIZE], row: usize, d: Divisor, flags: [bool; 16], c: usize) -> bool
+// An occurrence is taken if it overlaps none taken before.
+fn takes(signs: &[u8; SIZE], row: usize, d: Divisor, flags: [bool; POSITIONS], c: usize) -> bool
     requires { ⌜ (row < 8) × (c < 16) ⌝ }
     ensures { λ r. ⌜ r ≡ occursAt (tableSigns 260 16 (now (signs .entry)) row) d c && not (overlapsTaken d flags c) ⌝ }
 {
@@ -57,4 +58,51 @@ fn takes(signs: &[u8; SIZE], row: usize, d: Divisor, flags: [bool; 16], c: usize
         return !overlaps(flags, d, c);
     }
     false
+}
+
+// How many co-divisors leave both exponents below 16: past them nothing occurs.
+fn co_divisors(d: Divisor) -> usize
+    ensures { λ r. ⌜ (r ≤ 16) × (16 ≤ r + max (d .ea) (d .eb)) ⌝ }
+{
+    let higher = if d.ea < d.eb { d.eb } else { d.ea };
+    let higher = higher as usize;
+    if higher < POSITIONS {
+        return POSITIONS - higher;
+    }
+    0
+}
+
+// The occurrences in a row are visited by ascending co-divisor.
+pub fn taken_in_row(signs: &[u8; SIZE], row: usize, d: Divisor) -> Taken
+    requires { ⌜ row < 8 ⌝ }
+    ensures { λ r. ⌜ (r .flags ≡ takenFlags (tableSigns 260 16 (now (signs .entry)) row) d 16) × (r .count ≡ countTrue (takenFlags (tableSigns 260 16 (now (signs .entry)) row) d 16)) ⌝ }
+{
+    let limit = co_divisors(d);
+    let mut flags = [false; POSITIONS];
+    let mut count = 0;
+    let mut c = 0;
+    while c < limit {
+        let taken = takes(signs, row, d, flags, c);
+        flags[c] = taken;
+        if taken {
+            count += 1;
+        }
+        c += 1;
+    }
+    Taken { flags, count }
+}
+
+// The score in the first m rows.
+pub fn score(signs: &[u8; SIZE], m: usize, d: Divisor) -> usize
+    requires { ⌜ m ≤ 8 ⌝ }
+    ensures { λ r. ⌜ r ≡ lookupScore 16 (rowsSignsFrom 260 16 (now (signs .entry)) 0 m) d ⌝ }
+{
+    let mut n = 0;
+    let mut i = 0;
+    while i < m {
+        let taken = taken_in_row(signs, i, d);
+        n += taken.count;
+        i += 1;
+    }
+    n
 }

@@ -3,8 +3,8 @@ use crate::row::Row;
 use crate::rows::Rows;
 use term::Term;
 ghost use mathlib.Core.Path.{_≡_};
-ghost use Prim.Native.Nat.{_+_, _*_, _<_, _≤_};
-ghost use lib.ListN.{length, getD};
+ghost use Prim.Native.Nat.{_<_, _≤_};
+ghost use lib.ListN.{length};
 ghost use Rattle.eliminate.specs.Signs.{Within, Placed, place, blankSigns, tableSigns, enteredTerms, signTable};
 ghost use Rattle.eliminate.specs.State.{rowTerms, rowsTerms};
 ghost use Rattle.elimination.specs.Lookup.{signNumber};
@@ -20,6 +20,7 @@ fn place(row: usize, symbol: u16, exponent: usize) -> usize
     (row * 260 + (symbol as usize)) * 16 + exponent
 }
 
+// No sign anywhere.
 fn blank() -> [u8; SIZE]
     ensures { λ r. ⌜ r ≡ blankSigns 33280 ⌝ }
 {
@@ -31,10 +32,10 @@ pub fn sign_at(signs: &[u8; SIZE], row: usize, symbol: u16, exponent: usize) -> 
     requires { ⌜ row < 8 ⌝ }
     ensures { λ r. ⌜ r ≡ tableSigns 260 16 (now (signs .entry)) row symbol exponent ⌝ }
 {
-    if 259 < symbol {
+    if symbol > Term::MAX_SYMBOL {
         return 0;
     }
-    if 15 < exponent {
+    if exponent > Term::MAX_EXPONENT as usize {
         return 0;
     }
     let at = place(row, symbol, exponent);
@@ -69,6 +70,7 @@ fn enter_row(signs: &mut [u8; SIZE], i: usize, row: Row)
     }
 }
 
+// The table of all rows.
 pub fn sign_table(rows: Rows) -> [u8; SIZE]
     requires { ⌜ Placed 260 16 (rowsTerms rows) × (length (rowsTerms rows) ≤ 8) ⌝ }
     ensures { λ r. ⌜ r ≡ signTable 260 16 8 (rowsTerms rows) ⌝ }

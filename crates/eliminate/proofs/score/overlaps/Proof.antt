@@ -1,5 +1,4 @@
 -- `eliminate::score::overlaps` meets its contract. Assumes nothing.
-use mathlib.Core.Path.{_≡_}
 use native.Mathlib.Omega.{arith}
 use borrow.Author.Needs.{needs}
 use Rattle.eliminate.proofs.Scoring.{symbols-differ, none-before, one-before}

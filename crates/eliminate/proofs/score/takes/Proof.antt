@@ -1,5 +1,5 @@
 -- `eliminate::score::takes` meets its contract. Assumes nothing.
-use mathlib.Core.Path.{_≡_, sym, _∙_}
+use mathlib.Core.Path.{sym, _∙_}
 use borrow.Author.Needs.{needs}
 use Rattle.eliminate.proofs.Scoring.{both, not-first}
 use Rattle.eliminate.proofs.score.takes.Statement.{statement}

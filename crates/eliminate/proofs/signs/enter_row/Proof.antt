@@ -1,9 +1,9 @@
 -- `eliminate::signs::enter_row` meets its contract. Assumes nothing.
-use Prim.Native.Nat.{ℕ, _+_, _-_, _≤_, _<_}
+use Prim.Native.Nat.{_-_, _≤_}
 use mathlib.Core.Path.{_≡_, ap, sym, _∙_}
 use native.Mathlib.Omega.{arith}
 use borrow.Author.Needs.{needs}
-use lib.ListN.{length, drop, getD}
+use lib.ListN.{drop, getD}
 use Rattle.term.specs.declared.Term.{Term}
 use Rattle.eliminate.specs.State.{rowTerms, noTerm}
 use Rattle.eliminate.specs.Signs.{enteredTerms}

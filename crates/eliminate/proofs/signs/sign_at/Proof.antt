@@ -1,5 +1,5 @@
 -- `eliminate::signs::sign_at` meets its contract. Assumes nothing.
-use mathlib.Core.Path.{_≡_, ap, sym, _∙_}
+use mathlib.Core.Path.{ap, sym, _∙_}
 use Prim.Native.Nat.{ℕ}
 use native.Mathlib.Omega.{arith}
 use borrow.Author.Needs.{needs}
@@ -10,6 +10,9 @@ use Rattle.eliminate.proofs.signs.sign_at.Tie as tie
 
 returns : tie.Need-returns
 returns c = sym (look-out 260 16 _ _ _ _ (λ s e. omega arith))
+
+cast-if2 : tie.Need-cast-if2
+cast-if2 c = search needs
 
 returns-2 : tie.Need-returns-2
 returns-2 c = sym (look-out 260 16 _ _ _ _ (λ s e. omega arith))
@@ -28,4 +31,4 @@ returns-3 c =
 
 pub sign-at-spec : {M : Type 1} → statement M
 sign-at-spec =
-    tie.close (tie.spec returns returns-2 place-requires element-copy-out-result returns-3)
+    tie.close (tie.spec returns cast-if2 returns-2 place-requires element-copy-out-result returns-3)

@@ -1,10 +1,10 @@
 -- `eliminate::signs::sign_table` meets its contract. Assumes nothing.
-use Prim.Native.Nat.{_+_, _-_, _≤_, _<_}
-use mathlib.Core.Path.{_≡_, ap, sym, _∙_}
+use Prim.Native.Nat.{_-_, _≤_}
+use mathlib.Core.Path.{_≡_, sym, _∙_}
 use mathlib.Core.List.{[]}
 use native.Mathlib.Omega.{arith}
 use borrow.Author.Needs.{needs}
-use lib.ListN.{length, drop, getD}
+use lib.ListN.{drop, getD}
 use Rattle.eliminate.specs.State.{rowsTerms}
 use Rattle.eliminate.specs.Signs.{enteredRows, signTable}
 use Rattle.eliminate.proofs.Members.{member-at}

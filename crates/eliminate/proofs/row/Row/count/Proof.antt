@@ -1,6 +1,4 @@
 -- `eliminate::row::Row::count` meets its contract. Assumes nothing.
-use mathlib.Core.Path.{_≡_}
-use borrow.Author.Needs.{needs}
 use lib.ListN.{length-map}
 use Rattle.eliminate.specs.State.{rowTerms}
 use Rattle.eliminate.proofs.Filled.{filled-under, filled-whole}

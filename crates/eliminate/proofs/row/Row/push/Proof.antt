@@ -1,8 +1,6 @@
 -- `eliminate::row::Row::push` meets its contract. Assumes nothing.
-use mathlib.Core.Path.{_≡_}
 use Prim.Native.Nat.{_<_}
 use native.Mathlib.Omega.{arith}
-use borrow.Author.Needs.{needs}
 use lib.ListN.{length-map}
 use Rattle.eliminate.specs.State.{rowTerms}
 use Rattle.eliminate.proofs.Filled.{room, filled-more}

@@ -3,7 +3,7 @@ use mathlib.Core.Path.{ap, sym, _∙_}
 use mathlib.Core.List.{[]}
 use Prim.Native.Nat.{_<_}
 use native.Mathlib.Omega.{arith}
-use lib.ListN.{length, take, getD, length-map, List·getD-map}
+use lib.ListN.{length, take, length-map, List·getD-map}
 use Rattle.eliminate.specs.declared.row.Row.{Row}
 use Rattle.eliminate.specs.State.{rowTerms, rowsTerms}
 use Rattle.eliminate.proofs.Filled.{within, filled-at}

@@ -1,10 +1,9 @@
 -- `eliminate::rows::Rows::with_row` meets its contract. Assumes nothing.
 use mathlib.Core.Path.{ap, _∙_}
-use mathlib.Core.List.{List, [], _∷_, map, map-append}
+use mathlib.Core.List.{[], _∷_, map, map-append}
 use Prim.Native.Nat.{_<_}
 use native.Mathlib.Omega.{arith}
 use lib.ListN.{take, length-map}
-use Rattle.eliminate.specs.declared.row.Row.{Row}
 use Rattle.eliminate.specs.State.{rowTerms, rowsTerms}
 use Rattle.eliminate.proofs.Filled.{room, filled-more}
 use Rattle.eliminate.proofs.rows.Rows.with_row.Statement.{statement}

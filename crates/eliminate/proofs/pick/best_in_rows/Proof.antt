@@ -1,0 +1,83 @@
+-- `eliminate::pick::best_in_rows` meets its contract. Assumes nothing.
+use Prim.Native.Nat.{ℕ, _-_, _≤_}
+use mathlib.Core.Path.{_≡_, ap, sym, _∙_}
+use mathlib.Core.List.{[]}
+use native.Mathlib.Omega.{arith}
+use borrow.Author.Needs.{needs}
+use lib.ListN.{drop, getD}
+use Rattle.elimination.specs.Elimination.{before, noPairs, allPairs}
+use Rattle.elimination.specs.Lookup.{lookupBest}
+use Rattle.eliminate.specs.State.{rowsTerms}
+use Rattle.eliminate.specs.Signs.{rowsSignsFrom}
+use Rattle.eliminate.specs.Pick.{scoredOf}
+use Rattle.eliminate.proofs.Members.{member-at}
+use Rattle.eliminate.proofs.Picking.{rows-next, rows-end}
+use Rattle.eliminate.proofs.pick.best_in_rows.Statement.{statement}
+use Rattle.eliminate.proofs.pick.best_in_rows.Tie as tie
+
+abbrev Inv-loop : tie.InvT-loop
+Inv-loop signs rows m best₀ i₀ best i =
+    (i ≤ m)
+    × (lookupBest 16 before (rowsSignsFrom 260 16 signs 0 m) (scoredOf best) (allPairs (drop i (rowsTerms rows)))
+    ≡ lookupBest 16 before (rowsSignsFrom 260 16 signs 0 m) noPairs (allPairs (rowsTerms rows)))
+
+abbrev μ-loop : tie.MeasureT-loop
+μ-loop signs rows m best₀ i₀ best i = m - i
+
+m-requires : tie.Need-m-requires Inv-loop μ-loop
+m-requires c κs = search needs
+
+no-pairs-requires : tie.Need-no-pairs-requires Inv-loop μ-loop
+no-pairs-requires c κs = search needs
+
+loop-holds : tie.Need-loop-holds Inv-loop μ-loop
+loop-holds c = (omega arith, rw (c .no-pairs .ensures))
+
+row-requires : tie.Need-row-requires Inv-loop μ-loop
+row-requires c κs = omega arith
+
+best-in-row-requires : tie.Need-best-in-row-requires Inv-loop μ-loop
+best-in-row-requires c κs =
+    let h = c .before .before in
+    let s = h .before .before .before in
+    let rows = rowsTerms (s .args .rows) in
+    (omega arith, rw (c .row .ensures) (s .pre .1 (getD rows (h .loop .i) []) (member-at rows (h .loop .i) [] (omega arith)) .0))
+
+add-i : tie.Need-add-i Inv-loop μ-loop
+add-i c = search needs
+
+loop-less : tie.Need-loop-less Inv-loop μ-loop
+loop-less c = search needs
+
+loop-again : tie.Need-loop-again Inv-loop μ-loop
+loop-again c =
+    let h = c .before .before .before in
+    let s = h .before .before .before in
+    let m : ℕ = h .before .before .m .result in
+    let next = rows-next 16 (rowsSignsFrom 260 16 (s .args .signs .now) 0 m) (rowsTerms (s .args .rows)) (h .loop .i) (scoredOf (h .loop .best)) (omega arith) in
+    (omega arith, rw (c .best-in-row .ensures, c .before .row .ensures) (sym next ∙ h .loop .inv .1))
+
+returns : tie.Need-returns Inv-loop μ-loop
+returns c =
+    let h = c .before in
+    let s = h .before .before .before in
+    let m : ℕ = h .before .before .m .result in
+    sym (rows-end 16 (rowsSignsFrom 260 16 (s .args .signs .now) 0 m) (rowsTerms (s .args .rows)) (h .loop .i) (scoredOf (h .loop .best)) (omega arith))
+    ∙ h .loop .inv .1
+    ∙ ap (λ (n : ℕ). lookupBest 16 before (rowsSignsFrom 260 16 (s .args .signs .now) 0 n) noPairs (allPairs (rowsTerms (s .args .rows)))) (h .before .before .m .ensures)
+
+pub best-in-rows-spec : {M : Type 1} → statement M
+best-in-rows-spec =
+    tie.close
+    (tie.spec
+    Inv-loop
+    μ-loop
+    m-requires
+    no-pairs-requires
+    loop-holds
+    row-requires
+    best-in-row-requires
+    add-i
+    loop-less
+    loop-again
+    returns)

@@ -1,0 +1,96 @@
+-- `eliminate::row::Row::with_column` meets its contract. Assumes nothing.
+use Prim.Native.Nat.{_+_, _-_, _≤_}
+use mathlib.Core.Path.{_≡_, refl, ap, sym, _∙_}
+use mathlib.Core.List.{List, [], _∷_, _++_}
+use native.Mathlib.Omega.{arith}
+use borrow.Author.Needs.{needs}
+use lib.ListN.{length, drop, getD}
+use lib.IntN.{ℤ, pos}
+use mir.Syntax.{w8}
+use mir.Val.{toZ, ofZ}
+use mir.Facts.{toZ-ofZ}
+use Rattle.integers.proofs.Held.{is, held}
+use Rattle.digits.specs.Digits.{digits}
+use Rattle.digits.proofs.Canonic.{digits-length, digits-are}
+use Rattle.elimination.specs.Rows.{columnTerms}
+use Rattle.eliminate.specs.State.{rowTerms}
+use Rattle.eliminate.proofs.Columns.{digit-fits, column-next, column-end, column-most, front-most}
+use Rattle.eliminate.proofs.row.Row.with_column.Statement.{statement}
+use Rattle.eliminate.proofs.row.Row.with_column.Tie as tie
+
+abbrev Inv-loop : tie.InvT-loop
+Inv-loop column z ds row₀ i₀ row i = (i ≤ 16) × (rowTerms row ++ columnTerms column i (drop i ds) ≡ rowTerms row₀ ++ columnTerms column 0 ds)
+
+abbrev μ-loop : tie.MeasureT-loop
+μ-loop column z ds row₀ i₀ row i = 16 - i
+
+digits-requires : tie.Need-digits-requires Inv-loop μ-loop
+digits-requires c κs = search needs
+
+loop-holds : tie.Need-loop-holds Inv-loop μ-loop
+loop-holds c = (omega arith, refl)
+
+array-copy-out-d : tie.Need-array-copy-out-d Inv-loop μ-loop
+array-copy-out-d c = search needs
+
+with-digit-requires : tie.Need-with-digit-requires Inv-loop μ-loop
+with-digit-requires c κs =
+    let h = c .before .before in
+    let s = h .before .before in
+    let ds = h .before .digits in
+    let worked : ds .result ≡ digits 16 (s .args .z) = ds .ensures ∙ ap (digits 16) (is (held (s .fits .z))) in
+    let i = h .loop .i in
+    let sixteen : length (ds .result) ≡ 16 = ap (length {A = ℤ}) worked ∙ digits-length 16 (s .args .z) in
+    let whole : length (rowTerms (s .args .self) ++ columnTerms (s .args .column) 0 (ds .result)) ≤ 64 = rw worked (column-most (s .args .column) (s .args .z) (rowTerms (s .args .self)) (s .pre .1)) in
+    let own : toZ w8 (ofZ w8 (getD (ds .result) i (pos 0))) ≡ getD (ds .result) i (pos 0) = rw worked (toZ-ofZ (digit-fits (getD (digits 16 (s .args .z)) i (pos 0)) (digits-are 16 (s .args .z) i))) in (
+      omega arith,
+      omega arith,
+      rw own (front-most (rowTerms (h .loop .row) ++ columnTerms (s .args .column) i (getD (ds .result) i (pos 0) ∷ [])) (columnTerms (s .args .column) (i + 1) (drop (i + 1) (ds .result)))
+          (rowTerms (s .args .self) ++ columnTerms (s .args .column) 0 (ds .result)) 64
+          (sym (column-next (s .args .column) (ds .result) i (rowTerms (h .loop .row)) (omega arith)) ∙ h .loop .inv .1) whole),
+    )
+
+add-i : tie.Need-add-i Inv-loop μ-loop
+add-i c = search needs
+
+loop-less : tie.Need-loop-less Inv-loop μ-loop
+loop-less c = search needs
+
+loop-again : tie.Need-loop-again Inv-loop μ-loop
+loop-again c =
+    let h = c .before .before .before in
+    let s = h .before .before in
+    let ds = h .before .digits in
+    let worked : ds .result ≡ digits 16 (s .args .z) = ds .ensures ∙ ap (digits 16) (is (held (s .fits .z))) in
+    let i = h .loop .i in
+    let sixteen : length (ds .result) ≡ 16 = ap (length {A = ℤ}) worked ∙ digits-length 16 (s .args .z) in
+    let own : toZ w8 (ofZ w8 (getD (ds .result) i (pos 0))) ≡ getD (ds .result) i (pos 0) = rw worked (toZ-ofZ (digit-fits (getD (digits 16 (s .args .z)) i (pos 0)) (digits-are 16 (s .args .z) i))) in
+    let row : rowTerms (c .with-digit .result) ≡ rowTerms (h .loop .row) ++ columnTerms (s .args .column) i (getD (ds .result) i (pos 0) ∷ []) =
+    c .with-digit .ensures ∙ ap (λ (d : ℤ). rowTerms (h .loop .row) ++ columnTerms (s .args .column) i (d ∷ [])) own in
+    (omega arith, rw row (sym (column-next (s .args .column) (ds .result) i (rowTerms (h .loop .row)) (omega arith)) ∙ h .loop .inv .1))
+
+returns : tie.Need-returns Inv-loop μ-loop
+returns c =
+    let h = c .before in
+    let s = h .before .before in
+    let ds = h .before .digits in
+    let worked : ds .result ≡ digits 16 (s .args .z) = ds .ensures ∙ ap (digits 16) (is (held (s .fits .z))) in
+    let sixteen : length (ds .result) ≡ 16 = ap (length {A = ℤ}) worked ∙ digits-length 16 (s .args .z) in
+    sym (column-end (s .args .column) (ds .result) (h .loop .i) (rowTerms (h .loop .row)) (omega arith))
+    ∙ h .loop .inv .1
+    ∙ ap (λ (l : List ℤ). rowTerms (s .args .self) ++ columnTerms (s .args .column) 0 l) worked
+
+pub with-column-spec : {M : Type 1} → statement M
+with-column-spec =
+    tie.close
+    (tie.spec
+    Inv-loop
+    μ-loop
+    digits-requires
+    loop-holds
+    array-copy-out-d
+    with-digit-requires
+    add-i
+    loop-less
+    loop-again
+    returns)

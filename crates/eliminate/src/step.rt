@@ -1,0 +1,157 @@
+// Document 01, "Elimination": the step. Rests on `pick`.
+use crate::pick;
+use crate::row::Row;
+use crate::rows::Rows;
+use crate::score;
+use crate::signs;
+use crate::signs::SIZE;
+use digits::POSITIONS;
+use elimination::Divisor;
+use term::Term;
+ghost use mathlib.Core.Path.{_≡_};
+ghost use mathlib.Core.List.{_++_};
+ghost use Prim.Native.Nat.{_<_, _≤_};
+ghost use lib.ListN.{length};
+ghost use Rattle.elimination.specs.Lookup.{partAs, partOfTaken, keptTerms, lookupTerm, lookupTermsFrom, Proper};
+ghost use Rattle.elimination.specs.Elimination.{rowsAfter};
+ghost use Rattle.eliminate.specs.State.{rowTerms, rowsTerms, Ready};
+ghost use Rattle.eliminate.specs.Signs.{Within, tableSigns, signTable};
+ghost use Rattle.eliminate.specs.Step.{rowAfterBy, answerOf, stepAnswer};
+
+// The rows after a step, its divisor and the number of pairs replaced: 0 where elimination has ended, and the rows are as they were.
+pub struct Stepped {
+    pub rows: Rows,
+    pub divisor: Divisor,
+    pub replaced: usize,
+}
+
+// A term of the symbol, whose exponent is that of a taken co-divisor above the given one.
+fn part_as(symbol: u16, exponent: u8, flags: [bool; POSITIONS], t: Term) -> bool
+    requires { ⌜ t .exponent < 16 ⌝ }
+    ensures { λ r. ⌜ r ≡ partAs symbol exponent flags t ⌝ }
+{
+    if t.symbol() != symbol {
+        return false;
+    }
+    let e = t.exponent();
+    if e < exponent {
+        return false;
+    }
+    let c = (e - exponent) as usize;
+    flags[c]
+}
+
+// A term is part of a taken occurrence, as its first or its second term.
+fn part_of_taken(d: Divisor, flags: [bool; POSITIONS], t: Term) -> bool
+    requires { ⌜ t .exponent < 16 ⌝ }
+    ensures { λ r. ⌜ r ≡ partOfTaken d flags t ⌝ }
+{
+    if part_as(d.a, d.ea, flags, t) {
+        return true;
+    }
+    part_as(d.b, d.eb, flags, t)
+}
+
+// The terms that are part of no taken occurrence.
+fn kept(d: Divisor, flags: [bool; POSITIONS], row: Row) -> Row
+    requires { ⌜ Within 260 16 (rowTerms row) × (length (rowTerms row) ≤ 64) ⌝ }
+    ensures { λ r. ⌜ rowTerms r ≡ keptTerms d flags (rowTerms row) ⌝ }
+{
+    let count = row.count();
+    let mut out = Row::empty();
+    let mut i = 0;
+    while i < count {
+        let t = row.term(i);
+        if !part_of_taken(d, flags, t) {
+            out = out.push(t);
+        }
+        i += 1;
+    }
+    out
+}
+
+// The sign of an occurrence is that of its first term.
+fn new_term(signs: &[u8; SIZE], i: usize, symbol: u16, d: Divisor, c: usize) -> Term
+    requires { ⌜ (i < 8) × (symbol ≤ 259) × (c < 16) ⌝ }
+    ensures { λ r. ⌜ r ≡ lookupTerm symbol (tableSigns 260 16 (now (signs .entry)) i) d c ⌝ }
+{
+    let sign = signs::sign_at(signs, i, d.a, d.ea as usize + c);
+    Term::new(symbol, c as u8, sign == 2)
+}
+
+// Each taken pair becomes one term: the new symbol, the co-divisor, the occurrence's sign. The row's index is i.
+fn with_new_terms(
+    signs: &[u8; SIZE],
+    i: usize,
+    symbol: u16,
+    d: Divisor,
+    flags: [bool; POSITIONS],
+    row: Row,
+) -> Row
+    requires { ⌜ (i < 8) × (symbol ≤ 259) × (length (rowTerms row ++ lookupTermsFrom symbol (tableSigns 260 16 (now signs) i) d 0 flags) ≤ 64) ⌝ }
+    ensures { λ r. ⌜ rowTerms r ≡ rowTerms row ++ lookupTermsFrom symbol (tableSigns 260 16 (now (signs .entry)) i) d 0 flags ⌝ }
+{
+    let mut out = row;
+    let mut c = 0;
+    while c < POSITIONS {
+        if flags[c] {
+            let t = new_term(signs, i, symbol, d, c);
+            out = out.push(t);
+        }
+        c += 1;
+    }
+    out
+}
+
+// The new symbol is the largest, so the new terms stand last.
+fn row_after(signs: &[u8; SIZE], i: usize, symbol: u16, d: Divisor, row: Row) -> Row
+    requires { ⌜ (i < 8) × (symbol ≤ 259) × Within 260 16 (rowTerms row) × (length (rowTerms row) ≤ 64) × (length (rowAfterBy 16 symbol d (tableSigns 260 16 (now signs) i) (rowTerms row)) ≤ 64) ⌝ }
+    ensures { λ r. ⌜ rowTerms r ≡ rowAfterBy 16 symbol d (tableSigns 260 16 (now (signs .entry)) i) (rowTerms row) ⌝ }
+{
+    let taken = score::taken_in_row(signs, i, d);
+    let flags = taken.flags;
+    let rest = kept(d, flags, row);
+    with_new_terms(signs, i, symbol, d, flags, rest)
+}
+
+// The rows go into a fresh rows state, one by one.
+fn rows_after(signs: &[u8; SIZE], symbol: u16, d: Divisor, rows: Rows) -> Rows
+    requires { ⌜ (now signs ≡ signTable 260 16 8 (rowsTerms rows)) × Ready symbol (rowsTerms rows) × (symbol ≤ 259) × Proper d ⌝ }
+    ensures { λ r. ⌜ rowsTerms r ≡ rowsAfter symbol d (rowsTerms rows) ⌝ }
+{
+    let m = rows.m();
+    let mut out = Rows::empty();
+    let mut i = 0;
+    while i < m {
+        let row = row_after(signs, i, symbol, d, rows.row(i));
+        out = out.with_row(row);
+        i += 1;
+    }
+    out
+}
+
+impl Rows {
+    // One step, whose divisor gets the given symbol.
+    pub fn step(self, symbol: u16) -> Stepped
+        requires { ⌜ Ready symbol (rowsTerms self) × (symbol ≤ 259) ⌝ }
+        ensures { λ r. ⌜ answerOf r ≡ stepAnswer symbol (rowsTerms self) ⌝ }
+    {
+        let signs = signs::sign_table(self);
+        let best = pick::best_in_rows(&signs, self);
+        let divisor = best.divisor;
+        let replaced = best.score;
+        if replaced < 2 {
+            return Stepped {
+                rows: self,
+                divisor,
+                replaced: 0,
+            };
+        }
+        let rows = rows_after(&signs, symbol, divisor, self);
+        Stepped {
+            rows,
+            divisor,
+            replaced,
+        }
+    }
+}
