@@ -13,7 +13,6 @@ use Rattle.term.specs.declared.Term.{Term}
 use Rattle.elimination.specs.Rows.{Row, plainCount}
 use Rattle.eliminate.specs.State.{noTerm}
 use Rattle.compiler.specs.Chains.{signOf, chainFrom, chain, chains, rowOutput, rowOutputs}
-use Rattle.compiler.proofs.Counts.{length-chain}
 
 -- ---- one element more
 
@@ -87,6 +86,16 @@ pub chain-none : (next : ℕ) (r : Row) (out : List Operation) → length r ≡ 
 unfolding chain
 chain-none next [] out h = sym (append-nil out)
 chain-none next (t ∷ r) out h = absurd (omega arith)
+
+length-chain-from : (symbol shift : ℕ) (turned : Bool) (next : ℕ) (r : Row) → length (chainFrom symbol shift turned next r) ≡ length r
+unfolding chainFrom
+length-chain-from symbol shift turned next [] = refl
+length-chain-from symbol shift turned next (t ∷ r) = ap suc (length-chain-from next 0 turned (suc next) r)
+
+pub length-chain : (next : ℕ) (r : Row) → length (chain next r) ≡ pred (length r)
+unfolding chain
+length-chain next [] = refl
+length-chain next (t ∷ r) = length-chain-from (t .symbol) (t .exponent) (t .negative) next r
 
 -- ---- all rows' chains
 

@@ -1,8 +1,7 @@
 -- Document 01, "Netlist and board machine": how many operations, outputs and bytes a netlist has, after any sequence of steps.
 -- Assumes nothing.
-use Prim.Native.Nat.{ℕ, suc, _+_, _*_, _≤_, pred}
+use Prim.Native.Nat.{ℕ, suc, _+_, _*_, _≤_}
 use mathlib.Core.Path.{_≡_, refl, ap, _∙_}
-use mathlib.Core.Bool.{Bool}
 use mathlib.Core.List.{List, [], _∷_, map}
 use native.Mathlib.Omega.{arith}
 use lib.ListN.{length, length-append, length-map}
@@ -14,8 +13,10 @@ use Rattle.elimination.specs.Rows.{Row, plainCount}
 use Rattle.elimination.specs.Elimination.{Eliminated, rowsAfter}
 use Rattle.elimination.specs.Steps.{Steps, end, step}
 use Rattle.elimination.proofs.Counts.{steps-operations, steps-twice}
-use Rattle.compiler.specs.Chains.{divisorOperation, chainFrom, chain, chains, rowOutputs}
+use Rattle.compiler.specs.Chains.{divisorOperation, chains}
 use Rattle.compiler.specs.Compile.{operationsOf, outputsOf, withWidths, outputWithWidth, netlistOf}
+use Rattle.compiler.proofs.Sums.{summed-rows-length, summed-rows-outputs}
+use Rattle.compiler.proofs.Chains.{remaining-summed}
 
 -- e is what some sequence of steps from the rows gives, with the inputs as the symbols below n
 abbrev pub Stepped : ℕ → List Row → Eliminated → Type 0
@@ -23,29 +24,12 @@ Stepped n rows e = Steps n rows (e .divisors) (e .replacements) (e .remainingRow
 
 -- ---- operations: one for each divisor, and (terms − 1) for each remaining row
 
-length-chain-from : (symbol shift : ℕ) (turned : Bool) (next : ℕ) (r : Row) → length (chainFrom symbol shift turned next r) ≡ length r
-unfolding chainFrom
-length-chain-from symbol shift turned next [] = refl
-length-chain-from symbol shift turned next (t ∷ r) = ap suc (length-chain-from next 0 turned (suc next) r)
-
-pub length-chain : (next : ℕ) (r : Row) → length (chain next r) ≡ pred (length r)
-unfolding chain
-length-chain next [] = refl
-length-chain next (t ∷ r) = length-chain-from (t .symbol) (t .exponent) (t .negative) next r
-
-pub length-chains : (next : ℕ) (rows : List Row) → length (chains next rows) ≡ plainCount rows
-unfolding chains plainCount
-length-chains next [] = refl
-length-chains next (r ∷ rows) =
-    let os : List Operation = chain next r in
-    omega (arith, length-append os (chains (next + length os) rows), length-chain next r, length-chains (next + length os) rows)
-
 pub length-operations : (n : ℕ) (e : Eliminated) → length (operationsOf n e) ≡ length (e .divisors) + plainCount (e .remainingRows)
 unfolding operationsOf
 length-operations n e =
     let ds : List Operation = map divisorOperation (e .divisors) in
     let next : ℕ = n + length (e .divisors) in
-    omega (arith, length-append ds (chains next (e .remainingRows)), length-map (e .divisors) divisorOperation, length-chains next (e .remainingRows))
+    omega (arith, length-append ds (chains next (e .remainingRows)), length-map (e .divisors) divisorOperation, summed-rows-length (remaining-summed n e))
 
 -- operations = plain + divisors − replacements
 pub operations-count : (n : ℕ) (rows : List Row) (e : Eliminated) → Stepped n rows e
@@ -58,11 +42,6 @@ operations-fewer n rows e s = omega (arith, operations-count n rows e s, steps-t
 
 -- ---- outputs: one for each row
 
-length-row-outputs : (next : ℕ) (rows : List Row) → length (rowOutputs next rows) ≡ length rows
-unfolding rowOutputs
-length-row-outputs next [] = refl
-length-row-outputs next (r ∷ rows) = ap suc (length-row-outputs (next + length (chain next r)) rows)
-
 length-rows-after : (symbol : ℕ) (d : Divisor) (rows : List Row) → length (rowsAfter symbol d rows) ≡ length rows
 unfolding rowsAfter
 length-rows-after symbol d [] = refl
@@ -73,8 +52,7 @@ steps-rows end = refl
 steps-rows {symbol} {rows} (step d h more) = steps-rows more ∙ length-rows-after symbol d rows
 
 pub length-outputs : (n : ℕ) (rows : List Row) (e : Eliminated) → Stepped n rows e → length (outputsOf n e) ≡ length rows
-unfolding outputsOf
-length-outputs n rows e s = length-row-outputs (n + length (e .divisors)) (e .remainingRows) ∙ steps-rows s
+length-outputs n rows e s = summed-rows-outputs (remaining-summed n e) ∙ steps-rows s
 
 -- ---- the netlist: widths add nothing
 

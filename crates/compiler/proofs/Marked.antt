@@ -12,12 +12,12 @@ use Rattle.layout.specs.Records.{headPayload, operationPayload, outputPayload, 
 use Rattle.width.specs.Machine.{entryForm, outputForm, depth}
 use Rattle.width.specs.Width.{width}
 use Rattle.width.proofs.Marked.{marked-widths}
-use Rattle.compiler.specs.Chains.{chainFrom, chain, chains, rowOutput, rowOutputs}
+use Rattle.compiler.specs.Chains.{signOf, chainFrom, chain, chains, rowOutput, rowOutputs}
 use Rattle.compiler.specs.Compile.{operationsOf, outputsOf, withWidths, netlistOf, compileAnswer}
 use Rattle.compiler.specs.Marked.{MarkedBanks}
 
 pub marked-banks : MarkedBanks
-unfolding xor flatMap matrixRows plainCount matrixElimination matrixRefusal matrix rowsFrom coefficientsFrom coefficientAt signedWord headPayload operationPayload outputPayload totalsPayload netlistBytes entryForm outputForm depth width chainFrom chain chains rowOutput rowOutputs operationsOf outputsOf withWidths netlistOf compileAnswer
+unfolding xor flatMap matrixRows plainCount matrixElimination matrixRefusal matrix rowsFrom coefficientsFrom coefficientAt signedWord headPayload operationPayload outputPayload totalsPayload netlistBytes entryForm outputForm depth width signOf chainFrom chain chains rowOutput rowOutputs operationsOf outputsOf withWidths netlistOf compileAnswer
 marked-banks = record {
   digits = marked-digits;
   elimination = marked-elimination;
@@ -28,6 +28,10 @@ marked-banks = record {
   operations-four = refl;
   depth-four = refl;
   widths = marked-widths;
+  compiled-sum = refl;
+  compiled-negated = refl;
+  compiled-eight = refl;
+  output-eight = refl;
   bytes-three = refl;
   answer-three = refl;
 }

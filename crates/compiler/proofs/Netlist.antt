@@ -10,13 +10,14 @@ use Rattle.layout.specs.declared.Operation.{Operation}
 use Rattle.layout.specs.declared.Output.{Output}
 use Rattle.width.specs.Machine.{entryForm, outputForm}
 use Rattle.width.specs.Width.{width}
+use Rattle.width.proofs.OutputLaws.{zero-output-width}
 use Rattle.elimination.specs.Rows.{Row, WellFormed, EachRow, plainCount}
 use Rattle.elimination.specs.Elimination.{Eliminated}
 use Rattle.compiler.specs.Compile.{operationsOf, outputsOf, withWidths, outputWithWidth, netlistOf}
 use Rattle.compiler.specs.Compiled.{CompiledOperation, CompiledOutput, CompiledNetlist}
 use Rattle.compiler.proofs.Counts.{Stepped, operations-fewer, netlist-operations, netlist-outputs, length-with-widths}
 use Rattle.compiler.proofs.Operands.{OperationInRange, EachOperation, operations-in-range, OutputInRange, EachOutput, outputs-in-range}
-use Rattle.compiler.proofs.Widths.{depth-with-widths, each-with-width, each-output-with-width, operation-width, output-width, zero-output-width}
+use Rattle.compiler.proofs.Widths.{depth-with-widths, each-with-width, each-output-with-width, operation-width, output-width}
 
 -- ---- from each one to the one at a place
 
@@ -81,7 +82,7 @@ module _ (s positions widest n : ℕ) (rows : List Row) (e : Eliminated) (some :
         sign = r .0 .sign;
         shift = r .0 .shift;
         symbol = omega (arith, r .0 .symbol, length-with-widths s n os n os);
-        zero = λ z. (r .0 .zero z .0, r .0 .zero z .1, zero-output-width s n os o z);
+        zero = λ z. (r .0 .zero z .0, r .0 .zero z .1, zero-output-width s n os o (omega arith));
         width = output-width s n os o;
         narrow = r .1;
       })

@@ -3,8 +3,8 @@
 -- Assumes nothing.
 use Prim.Native.Nat.{ℕ, zero, suc, _+_, _≤_, _<_}
 use mathlib.Core.Path.{_≡_, refl, sym, subst}
-use mathlib.Core.Bool.{Bool, true, false, xor}
-use mathlib.Core.List.{List, [], _∷_, _++_, map, List·Memᴰ, List·Memᴰ·head, List·Memᴰ·tail}
+use mathlib.Core.Bool.{Bool, true, false}
+use mathlib.Core.List.{List, [], _∷_, _++_, map}
 use native.Mathlib.Omega.{arith}
 use lib.ListN.{length, length-append, length-map}
 use Rattle.term.specs.declared.Term.{Term}
@@ -15,9 +15,12 @@ use Rattle.elimination.specs.declared.Divisor.{Divisor}
 use Rattle.elimination.specs.Rows.{Row, WellFormed, EachRow}
 use Rattle.elimination.specs.Elimination.{Eliminated}
 use Rattle.elimination.proofs.Order.{DivisorsWithin, steps-well-formed, steps-divisors-within}
-use Rattle.compiler.specs.Chains.{signOf, divisorOperation, chainFrom, chain, chains, rowOutput, rowOutputs}
+use Rattle.compiler.specs.Chains.{signOf, divisorOperation, chains}
 use Rattle.compiler.specs.Compile.{operationsOf, outputsOf}
-use Rattle.compiler.proofs.Counts.{Stepped, length-chain}
+use Rattle.compiler.specs.Sums.{joinedTerm, Summed, nothing, last, join, SummedRows, end, first-row}
+use Rattle.compiler.proofs.Sums.{EachTerm, each-permuted, each-term, each-member}
+use Rattle.compiler.proofs.Chains.{remaining-summed}
+use Rattle.compiler.proofs.Counts.{Stepped}
 
 -- ---- an operation with a symbol, and all operations from one on
 
@@ -52,6 +55,7 @@ append-in-range positions symbol (o ∷ os) ps h k =
 -- ---- divisors and chains
 
 sign-in-range : (b : Bool) → signOf b ≤ 1
+unfolding signOf
 sign-in-range false = omega arith
 sign-in-range true = omega arith
 
@@ -68,44 +72,42 @@ divisors-in-range positions symbol (d ∷ ds) h = (
   divisors-in-range positions (suc symbol) ds (h .1),
 )
 
--- the terms of a row, where symbols are below the limit
-abbrev TermsWithin : ℕ → ℕ → Row → Type 0
-TermsWithin positions limit r = (t : Term) → List·Memᴰ t r → (t .exponent < positions) × (t .symbol < limit)
+-- a term whose symbol is below a limit
+abbrev TermWithin : ℕ → ℕ → Term → Type 0
+TermWithin positions limit t = (t .exponent < positions) × (t .symbol < limit)
 
-module _ (positions limit : ℕ) (some : 1 ≤ positions) where
-  chain-from-in-range : (symbol shift : ℕ) (turned : Bool) (next : ℕ) (r : Row) → symbol < next → shift < positions → limit ≤ next → TermsWithin positions limit r
-      → OperationsInRange positions next (chainFrom symbol shift turned next r)
-  unfolding chainFrom
-  chain-from-in-range symbol shift turned next [] h k l w = tt
-  chain-from-in-range symbol shift turned next (t ∷ r) h k l w =
-      let first = w t (List·Memᴰ·head refl) in (
+terms-within : (positions limit : ℕ) (r : Row) → WellFormed positions limit r → EachTerm (TermWithin positions limit) r
+terms-within positions limit r w = each-member (TermWithin positions limit) r (λ t m. (w .exponents t m, w .symbols t m))
+
+wider : (positions limit next : ℕ) → limit ≤ next → (r : Row) → EachTerm (TermWithin positions limit) r → EachTerm (TermWithin positions next) r
+wider positions limit next l = each-term (TermWithin positions limit) (TermWithin positions next) (λ t h. (h .0, omega (arith, h .1)))
+
+module _ (positions : ℕ) (some : 1 ≤ positions) where
+  -- what a join leaves: the other terms, and the sum
+  after-join : (next : ℕ) (t : Term) (others : Row) → EachTerm (TermWithin positions next) others → EachTerm (TermWithin positions (suc next)) (joinedTerm next t ∷ others)
+  after-join next t others h = ((some, omega arith), wider positions next (suc next) (omega arith) others h)
+
+  summed-in-range : {next : ℕ} {r : Row} {os : List Operation} {o : Output} → Summed next r os o → EachTerm (TermWithin positions next) r → OperationsInRange positions next os
+  summed-in-range nothing h = tt
+  summed-in-range (last t) h = tt
+  summed-in-range {next} (join t u others p q s) h =
+      let k = each-permuted (TermWithin positions next) p h in (
         record {
-          sign = sign-in-range (xor turned (t .negative));
-          first-shift = k;
-          second-shift = first .0;
-          first-earlier = h;
-          second-earlier = omega (arith, first .1);
+          sign = sign-in-range _;
+          first-shift = k .0 .0;
+          second-shift = k .1 .0 .0;
+          first-earlier = k .0 .1;
+          second-earlier = k .1 .0 .1;
         },
-        chain-from-in-range next 0 turned (suc next) r (omega arith) (omega arith) (omega arith) (λ u m. w u (List·Memᴰ·tail m)),
+        summed-in-range s (each-permuted (TermWithin positions (suc next)) q (after-join next t others (k .1 .1))),
       )
 
-  chain-in-range : (next : ℕ) (r : Row) → limit ≤ next → TermsWithin positions limit r → OperationsInRange positions next (chain next r)
-  unfolding chain
-  chain-in-range next [] l w = tt
-  chain-in-range next (t ∷ r) l w =
-      let first = w t (List·Memᴰ·head refl) in
-      chain-from-in-range (t .symbol) (t .exponent) (t .negative) next r (omega (arith, first .1)) (first .0) l (λ u m. w u (List·Memᴰ·tail m))
-
-  terms-within : (r : Row) → WellFormed positions limit r → TermsWithin positions limit r
-  terms-within r w t m = (w .exponents t m, w .symbols t m)
-
-  chains-in-range : (next : ℕ) (rows : List Row) → limit ≤ next → EachRow (WellFormed positions limit) rows → OperationsInRange positions next (chains next rows)
-  unfolding chains
-  chains-in-range next [] l w = tt
-  chains-in-range next (r ∷ rows) l w =
-      let os : List Operation = chain next r in
-      append-in-range positions next os (chains (next + length os) rows) (chain-in-range next r l (terms-within r (w .0)))
-      (chains-in-range (next + length os) rows (omega arith) (w .1))
+  summed-rows-in-range : (limit : ℕ) {next : ℕ} {rows : List Row} {os : List Operation} {outputs : List Output} → SummedRows next rows os outputs → limit ≤ next
+      → EachRow (WellFormed positions limit) rows → OperationsInRange positions next os
+  summed-rows-in-range limit end l w = tt
+  summed-rows-in-range limit {next} (first-row {r = r} {os = os} {others = others} s more) l w =
+      append-in-range positions next os others (summed-in-range s (wider positions limit next l r (terms-within positions limit r (w .0))))
+      (summed-rows-in-range limit more (omega arith) (w .1))
 
 pub operations-in-range : (positions n : ℕ) (rows : List Row) (e : Eliminated) → 1 ≤ positions → EachRow (WellFormed positions n) rows → Stepped n rows e
     → OperationsInRange positions n (operationsOf n e)
@@ -116,7 +118,7 @@ operations-in-range positions n rows e some w s =
     append-in-range positions n made (chains next (e .remainingRows))
     (divisors-in-range positions n (e .divisors) (steps-divisors-within positions s w))
     (subst (λ (k : ℕ). OperationsInRange positions (n + k) (chains next (e .remainingRows))) (sym (length-map (e .divisors) divisorOperation))
-    (chains-in-range positions next some next (e .remainingRows) (omega arith) (steps-well-formed positions s w)))
+    (summed-rows-in-range positions some next (remaining-summed n e) (omega arith) (steps-well-formed positions s w)))
 
 pub operations-earlier : (positions n : ℕ) (rows : List Row) (e : Eliminated) → 1 ≤ positions → EachRow (WellFormed positions n) rows → Stepped n rows e → Earlier n (operationsOf n e)
 operations-earlier positions n rows e some w s = operands-earlier positions n (operationsOf n e) (operations-in-range positions n rows e some w s)
@@ -136,47 +138,37 @@ EachOutput P (o ∷ os) = P o × EachOutput P os
 abbrev pub OutputsInRange : ℕ → ℕ → List Output → Type 0
 OutputsInRange positions symbols os = EachOutput (OutputInRange positions symbols) os
 
+sign-of-output : (b : Bool) → signOf b ≤ 2
+sign-of-output b = omega (arith, sign-in-range b)
+
 never-zero : {A : Type 0} (b : Bool) → signOf b ≡ 2 → A
 never-zero b e = absurd (omega (arith, sign-in-range b))
 
-module _ (positions limit symbols : ℕ) (some : 1 ≤ positions) (inputs : 1 ≤ symbols) where
-  row-output-in-range : (next : ℕ) (r : Row) → limit ≤ next → next + length (chain next r) ≤ symbols → TermsWithin positions limit r → OutputInRange positions symbols (rowOutput next r)
-  unfolding rowOutput
-  row-output-in-range next [] l h w = record { sign = omega arith; shift = some; symbol = inputs; zero = λ e. (refl, refl) }
-  row-output-in-range next (t ∷ []) l h w =
-      let first = w t (List·Memᴰ·head refl) in
-      record {
-        sign = omega (arith, sign-in-range (t .negative));
-        shift = first .0;
-        symbol = omega (arith, first .1);
-        zero = never-zero (t .negative);
-      }
-  row-output-in-range next (t ∷ u ∷ r) l h w =
-      record {
-        sign = omega (arith, sign-in-range (t .negative));
-        shift = some;
-        symbol = omega (arith, length-chain next (t ∷ u ∷ r));
-        zero = never-zero (t .negative);
-      }
+module _ (positions symbols : ℕ) (some : 1 ≤ positions) (inputs : 1 ≤ symbols) where
+  summed-output-in-range : {next : ℕ} {r : Row} {os : List Operation} {o : Output} → Summed next r os o → next + length os ≤ symbols → EachTerm (TermWithin positions next) r
+      → OutputInRange positions symbols o
+  summed-output-in-range nothing l h = record { sign = omega arith; shift = some; symbol = inputs; zero = λ e. (refl, refl) }
+  summed-output-in-range (last t) l h = record { sign = sign-of-output _; shift = h .0 .0; symbol = omega (arith, h .0 .1); zero = never-zero _ }
+  summed-output-in-range {next} (join t u others p q s) l h =
+      summed-output-in-range s (omega arith)
+      (each-permuted (TermWithin positions (suc next)) q (after-join positions some next t others (each-permuted (TermWithin positions next) p h .1 .1)))
 
-  row-outputs-in-range : (next : ℕ) (rows : List Row) → limit ≤ next → next + length (chains next rows) ≤ symbols → EachRow (WellFormed positions limit) rows
-      → OutputsInRange positions symbols (rowOutputs next rows)
-  unfolding rowOutputs chains
-  row-outputs-in-range next [] l h w = tt
-  row-outputs-in-range next (r ∷ rows) l h w =
-      let os : List Operation = chain next r in
-      let both : length (os ++ chains (next + length os) rows) ≡ length os + length (chains (next + length os) rows) = length-append os (chains (next + length os) rows) in (
-        row-output-in-range next r l (omega arith) (terms-within positions limit some r (w .0)),
-        row-outputs-in-range (next + length os) rows (omega arith) (omega arith) (w .1),
+  summed-outputs-in-range : (limit : ℕ) {next : ℕ} {rows : List Row} {os : List Operation} {outputs : List Output} → SummedRows next rows os outputs → limit ≤ next
+      → next + length os ≤ symbols → EachRow (WellFormed positions limit) rows → OutputsInRange positions symbols outputs
+  summed-outputs-in-range limit end l m w = tt
+  summed-outputs-in-range limit {next} (first-row {r = r} {os = os} {others = others} s more) l m w =
+      let both : length (os ++ others) ≡ length os + length others = length-append os others in (
+        summed-output-in-range s (omega arith) (wider positions limit next l r (terms-within positions limit r (w .0))),
+        summed-outputs-in-range limit more (omega arith) (omega arith) (w .1),
       )
 
 pub outputs-in-range : (positions n : ℕ) (rows : List Row) (e : Eliminated) → 1 ≤ positions → 1 ≤ n → EachRow (WellFormed positions n) rows → Stepped n rows e
     → OutputsInRange positions (n + length (operationsOf n e)) (outputsOf n e)
-unfolding outputsOf operationsOf
+unfolding operationsOf
 outputs-in-range positions n rows e some inputs w s =
     let next : ℕ = n + length (e .divisors) in
     let made : List Operation = map divisorOperation (e .divisors) in
     let all : ℕ = n + length (made ++ chains next (e .remainingRows)) in
-    row-outputs-in-range positions next all some (omega arith) next (e .remainingRows) (omega arith)
+    summed-outputs-in-range positions all some (omega arith) next (remaining-summed n e) (omega arith)
     (omega (arith, length-append made (chains next (e .remainingRows)), length-map (e .divisors) divisorOperation))
     (steps-well-formed positions s w)

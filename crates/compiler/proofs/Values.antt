@@ -21,9 +21,12 @@ use Rattle.elimination.specs.Elimination.{Eliminated}
 use Rattle.elimination.proofs.Order.{matrix-well-formed}
 use Rattle.elimination.proofs.Value.{Values, steps-value}
 use Rattle.elimination.proofs.Matrix.{coefficientsTimes, row-value}
-use Rattle.compiler.specs.Chains.{signOf, divisorOperation, chainFrom, chain, chains, rowOutput, rowOutputs}
+use Rattle.compiler.specs.Chains.{signOf, divisorOperation, chains}
 use Rattle.compiler.specs.Compile.{operationsOf, outputsOf}
 use Rattle.compiler.specs.Limits.{RowsWithin}
+use Rattle.compiler.specs.Sums.{joinedTerm, Summed, nothing, last, join, SummedRows, end, first-row}
+use Rattle.compiler.proofs.Sums.{sum-permuted}
+use Rattle.compiler.proofs.Chains.{remaining-summed}
 use Rattle.compiler.proofs.Counts.{Stepped}
 use Rattle.compiler.proofs.Limits.{rows-columns, coefficients-enough}
 use Rattle.compiler.proofs.Operands.{operations-earlier}
@@ -35,15 +38,17 @@ outputOf v o = signed (o .sign) (shifted (v (o .symbol)) (o .shift))
 -- ---- signs and shifts, as the machine and as a row have them
 
 joined-is : (b : Bool) (x y : ℤ) (s : ℕ) → joined (signOf b) x (shifted y s) ≡ x +ℤ signedBy b (pos (2 ^ s) *ℤ y)
+unfolding signOf
 joined-is false x y s = ap (λ z. x +ℤ z) (*ℤ-comm y (pos (2 ^ s)))
 joined-is true x y s = ap (λ z. x +ℤ negℤ z) (*ℤ-comm y (pos (2 ^ s)))
 
 signed-is : (b : Bool) (y : ℤ) (s : ℕ) → signed (signOf b) (shifted y s) ≡ signedBy b (pos (2 ^ s) *ℤ y)
+unfolding signOf
 signed-is false y s = *ℤ-comm y (pos (2 ^ s))
 signed-is true y s = ap negℤ (*ℤ-comm y (pos (2 ^ s)))
 
-not-shifted : (z : ℤ) → shifted z 0 ≡ z
-not-shifted z = equal (at z ⊗ nat 1) (at z) (omega arith)
+one-times : (z : ℤ) → pos 1 *ℤ z ≡ z
+one-times z = equal (nat 1 ⊗ at z) (at z) (omega arith)
 
 signed-plus : (b : Bool) (x y : ℤ) → signedBy b (x +ℤ y) ≡ signedBy b x +ℤ signedBy b y
 signed-plus false x y = refl
@@ -81,58 +86,35 @@ module _ (v : ℕ → ℤ) where
     divisors-follow (suc s) ds (h .1),
   )
 
-  -- ---- chains
+  -- ---- sums
 
-  -- a term whose sign is turned for the chain
-  turnedValue : Bool → Term → ℤ
-  turnedValue turned t = signedBy (xor turned (t .negative)) (pos (2 ^ t .exponent) *ℤ v (t .symbol))
+  -- a join has the value of its two terms
+  join-value : (next : ℕ) (t u : Term) → v next ≡ joined (signOf (xor (t .negative) (u .negative))) (shifted (v (t .symbol)) (t .exponent)) (shifted (v (u .symbol)) (u .exponent))
+      → termValue v (joinedTerm next t) ≡ termValue v t +ℤ termValue v u
+  unfolding termValue
+  join-value next t u e =
+      ap (signedBy (t .negative)) (one-times (v next) ∙ e
+      ∙ joined-is (xor (t .negative) (u .negative)) (shifted (v (t .symbol)) (t .exponent)) (v (u .symbol)) (u .exponent))
+      ∙ signed-plus (t .negative) (shifted (v (t .symbol)) (t .exponent)) (signedBy (xor (t .negative) (u .negative)) (pos (2 ^ u .exponent) *ℤ v (u .symbol)))
+      ∙ ap₂ _+ℤ_ (ap (signedBy (t .negative)) (*ℤ-comm (v (t .symbol)) (pos (2 ^ t .exponent)))) (turned-back (t .negative) (u .negative) (pos (2 ^ u .exponent) *ℤ v (u .symbol)))
 
-  turned-sum : (turned : Bool) (r : Row) → signedBy turned (rowSum (turnedValue turned) r) ≡ rowValue v r
-  unfolding rowSum rowValue termValue turnedValue
-  turned-sum false [] = refl
-  turned-sum true [] = refl
-  turned-sum turned (t ∷ r) =
-      signed-plus turned (turnedValue turned t) (rowSum (turnedValue turned) r)
-      ∙ ap₂ _+ℤ_ (turned-back turned (t .negative) (pos (2 ^ t .exponent) *ℤ v (t .symbol))) (turned-sum turned r)
+  -- the output of a row's sum is the row's value
+  pub summed-value : {next : ℕ} {r : Row} {os : List Operation} {o : Output} → Summed next r os o → Follows v next os → outputOf v o ≡ rowValue v r
+  unfolding rowValue rowSum termValue
+  summed-value nothing f = refl
+  summed-value (last t) f = signed-is (t .negative) (v (t .symbol)) (t .exponent) ∙ sym (+ℤ-idr (termValue v t))
+  summed-value {next} (join t u others p q s) f =
+      summed-value s (f .1)
+      ∙ sym (sum-permuted (termValue v) q)
+      ∙ ap (λ z. z +ℤ rowSum (termValue v) others) (join-value next t u (f .0))
+      ∙ +ℤ-assoc (termValue v t) (termValue v u) (rowSum (termValue v) others)
+      ∙ sym (sum-permuted (termValue v) p)
 
-  -- a chain's last sum
-  chain-sum : (symbol shift : ℕ) (turned : Bool) (next : ℕ) (t : Term) (r : Row) → Follows v next (chainFrom symbol shift turned next (t ∷ r))
-      → v (next + length r) ≡ shifted (v symbol) shift +ℤ rowSum (turnedValue turned) (t ∷ r)
-  unfolding chainFrom rowSum turnedValue
-  chain-sum symbol shift turned next t [] h =
-      let same : next + 0 ≡ next = omega arith in
-      ap v same ∙ h .0
-      ∙ joined-is (xor turned (t .negative)) (shifted (v symbol) shift) (v (t .symbol)) (t .exponent)
-      ∙ ap (λ z. shifted (v symbol) shift +ℤ z) (sym (+ℤ-idr (turnedValue turned t)))
-  chain-sum symbol shift turned next t (u ∷ r) h =
-      ap v (sym (next-symbol next (length r)))
-      ∙ chain-sum next 0 turned (suc next) u r (h .1)
-      ∙ ap (λ z. z +ℤ rowSum (turnedValue turned) (u ∷ r)) (not-shifted (v next) ∙ h .0
-      ∙ joined-is (xor turned (t .negative)) (shifted (v symbol) shift) (v (t .symbol)) (t .exponent))
-      ∙ +ℤ-assoc (shifted (v symbol) shift) (turnedValue turned t) (rowSum (turnedValue turned) (u ∷ r))
-
-  -- the output of a row's chain is the row's value
-  pub row-output-value : (next : ℕ) (r : Row) → Follows v next (chain next r) → outputOf v (rowOutput next r) ≡ rowValue v r
-  unfolding chain rowOutput rowValue rowSum termValue
-  row-output-value next [] h = refl
-  row-output-value next (t ∷ []) h = signed-is (t .negative) (v (t .symbol)) (t .exponent) ∙ sym (+ℤ-idr (termValue v t))
-  row-output-value next (t ∷ u ∷ r) h =
-      signed-sign (t .negative) (shifted (v (next + length r)) 0)
-      ∙ ap (signedBy (t .negative)) (not-shifted (v (next + length r)) ∙ chain-sum (t .symbol) (t .exponent) (t .negative) next u r h)
-      ∙ signed-plus (t .negative) (shifted (v (t .symbol)) (t .exponent)) (rowSum (turnedValue (t .negative)) (u ∷ r))
-      ∙ ap₂ _+ℤ_ (ap (signedBy (t .negative)) (*ℤ-comm (v (t .symbol)) (pos (2 ^ t .exponent)))) (turned-sum (t .negative) (u ∷ r))
-    where
-      signed-sign : (b : Bool) (z : ℤ) → signed (signOf b) z ≡ signedBy b z
-      signed-sign false z = refl
-      signed-sign true z = refl
-
-  pub row-outputs-value : (next : ℕ) (rows : List Row) → Follows v next (chains next rows) → map (outputOf v) (rowOutputs next rows) ≡ map (rowValue v) rows
-  unfolding chains rowOutputs
-  row-outputs-value next [] h = refl
-  row-outputs-value next (r ∷ rows) h =
-      let os : List Operation = chain next r in
-      let others : List Operation = chains (next + length os) rows in
-      ap₂ _∷_ (row-output-value next r (follows-left v next os others h)) (row-outputs-value (next + length os) rows (follows-right v next os others h))
+  pub summed-rows-value : {next : ℕ} {rows : List Row} {os : List Operation} {outputs : List Output} → SummedRows next rows os outputs → Follows v next os
+      → map (outputOf v) outputs ≡ map (rowValue v) rows
+  summed-rows-value end f = refl
+  summed-rows-value {next} (first-row {os = os} {others = others} s more) f =
+      ap₂ _∷_ (summed-value s (follows-left v next os others f)) (summed-rows-value more (follows-right v next os others f))
 
   -- ---- a netlist: where each entry is what its operation makes of its operands, outputs are the values of the first rows
 
@@ -150,8 +132,7 @@ module _ (v : ℕ → ℤ) where
       (follows-right v n made (chains next (e .remainingRows)) h)
 
   pub outputs-remaining : (n : ℕ) (e : Eliminated) → Follows v n (operationsOf n e) → map (outputOf v) (outputsOf n e) ≡ map (rowValue v) (e .remainingRows)
-  unfolding outputsOf
-  outputs-remaining n e h = row-outputs-value (n + length (e .divisors)) (e .remainingRows) (chains-follow n e h)
+  outputs-remaining n e h = summed-rows-value (remaining-summed n e) (chains-follow n e h)
 
   pub outputs-value : (n : ℕ) (rows : List Row) (e : Eliminated) → Stepped n rows e → Follows v n (operationsOf n e) → map (outputOf v) (outputsOf n e) ≡ map (rowValue v) rows
   outputs-value n rows e s h = outputs-remaining n e h ∙ steps-value v s (divisors-value n e h)

@@ -5,10 +5,10 @@
 use Prim.Native.Nat.{ℕ, suc, _+_, _*_, _/_, _^_, _≤_, _<_}
 use mathlib.Core.Path.{_≡_, refl, sym, ap, ap₂, _∙_, subst}
 use mathlib.Core.Bool.{Bool, true, false, xor}
-use mathlib.Core.List.{List, [], _∷_, _++_, map, List·Memᴰ, List·Memᴰ·head, List·Memᴰ·tail}
+use mathlib.Core.List.{List, [], _∷_, _++_, map}
 use native.Mathlib.Omega.{arith}
 use native.Mathlib.Decide.{decLt}
-use native.Mathlib.Nat.{mul-le-mul-right, pow-succ'}
+use native.Mathlib.Nat.{mul-le-mul-left, pow-succ', le-refl}
 use lib.IntN.{ℤ, pos, natAbs, negℤ}
 use lib.ListN.{length, getD, length-append, length-map, List·getD-append, List·getD-map}
 use lib.Pow.{pow-mono}
@@ -30,9 +30,12 @@ use Rattle.elimination.proofs.Tests.{by-bool}
 use Rattle.elimination.proofs.Order.{Columns, DivisorsWithin, matrix-well-formed, steps-well-formed, steps-divisors-within}
 use Rattle.elimination.proofs.Weights.{WeightsWithin, steps-weights-within, steps-rows-within}
 use Rattle.elimination.proofs.Matrix.{matrix-weights, row-within, values-within}
-use Rattle.compiler.specs.Chains.{signOf, chainFrom, chain, chains}
+use Rattle.compiler.specs.Chains.{signOf}
 use Rattle.compiler.specs.Compile.{operationsOf, outputsOf}
-use Rattle.compiler.proofs.Counts.{Stepped, length-chain, length-chains, length-operations}
+use Rattle.compiler.specs.Sums.{joinedTerm, Summed, nothing, last, join, SummedRows, end, first-row}
+use Rattle.compiler.proofs.Sums.{EachTerm, each-member, weight-permuted, summed-rows-length}
+use Rattle.compiler.proofs.Chains.{remaining-summed}
+use Rattle.compiler.proofs.Counts.{Stepped, length-operations}
 use Rattle.compiler.proofs.Operands.{EachOutput}
 use Rattle.compiler.proofs.Values.{outputOf, follows-left, follows-right, divisors-value, chains-follow, outputs-remaining, entries-follow}
 
@@ -84,81 +87,88 @@ weight-within w bound symbol [] h k l m = absurd (omega arith)
 weight-within w bound symbol (d ∷ ds) h k l m =
     first-or-later (λ (j : ℕ). w j ≤ bound) symbol k l (h .0) (λ g. weight-within w bound (suc symbol) ds (h .1) k g (omega arith))
 
--- ---- chains: each sum is part of a row
+-- ---- sums: each is part of a row
 
 abbrev EachSmall : ℕ → List ℤ → Type 0
 EachSmall bound [] = Unit {0}
 EachSmall bound (z ∷ zs) = (natAbs z ≤ bound) × EachSmall bound zs
 
-module _ (v : ℕ → ℤ) (w : ℕ → ℕ) where
-  abbrev TermsSmall : Row → Type 0
-  TermsSmall r = (t : Term) → List·Memᴰ t r → natAbs (v (t .symbol)) ≤ w (t .symbol)
+-- a weight for each symbol at most another
+lighter : (x w : ℕ → ℕ) (r : Row) → EachTerm (λ t. x (t .symbol) ≤ w (t .symbol)) r → rowWeight x r ≤ rowWeight w r
+unfolding rowWeight termWeight
+lighter x w [] h = omega arith
+lighter x w (t ∷ r) h = omega (arith, mul-le-mul-left (2 ^ t .exponent) (h .0), lighter x w r (h .1))
 
-  shifted-small : (symbol shift : ℕ) → natAbs (v symbol) ≤ w symbol → natAbs (shifted (v symbol) shift) ≤ 2 ^ shift * w symbol
-  shifted-small symbol shift h =
-      let size : natAbs (shifted (v symbol) shift) ≡ natAbs (v symbol) * 2 ^ shift = abs-* (v symbol) (pos (2 ^ shift)) in
-      let more : natAbs (v symbol) * 2 ^ shift ≤ w symbol * 2 ^ shift = mul-le-mul-right (2 ^ shift) h in
-      omega arith
+module _ (v : ℕ → ℤ) where
+  -- the size of each value as its weight
+  abbrev size : ℕ → ℕ
+  size symbol = natAbs (v symbol)
+
+  shifted-size : (t : Term) → natAbs (shifted (v (t .symbol)) (t .exponent)) ≡ termWeight size t
+  unfolding termWeight
+  shifted-size t = omega (arith, abs-* (v (t .symbol)) (pos (2 ^ t .exponent)))
 
   joined-small : (b : Bool) (x y : ℤ) → natAbs (joined (signOf b) x y) ≤ natAbs x + natAbs y
+  unfolding signOf
   joined-small false x y = abs-+ x y
   joined-small true x y = omega (arith, abs-+ x (negℤ y), abs-neg y)
 
-  -- the sums of a chain that goes on from a sum of size at most `so-far`
-  chain-from-small : (bound so-far symbol shift : ℕ) (turned : Bool) (next : ℕ) (r : Row) → natAbs (shifted (v symbol) shift) ≤ so-far → TermsSmall r
-      → so-far + rowWeight w r ≤ bound → Follows v next (chainFrom symbol shift turned next r)
-      → (k : ℕ) → next ≤ k → k < next + length r → natAbs (v k) ≤ bound
-  unfolding chainFrom rowWeight termWeight
-  chain-from-small bound so-far symbol shift turned next [] a s b f k l m = absurd (omega arith)
-  chain-from-small bound so-far symbol shift turned next (t ∷ r) a s b f k l m =
-      let x : ℤ = shifted (v symbol) shift in
-      let y : ℤ = shifted (v (t .symbol)) (t .exponent) in
-      let here : natAbs (v next) ≤ so-far + 2 ^ t .exponent * w (t .symbol) =
-      rw (f .0) (omega (arith, joined-small (xor turned (t .negative)) x y, shifted-small (t .symbol) (t .exponent) (s t (List·Memᴰ·head refl)))) in
-      let zero-shift : natAbs (shifted (v next) 0) ≡ natAbs (v next) * 1 = abs-* (v next) (pos 1) in
+  join-small : (next : ℕ) (t u : Term) → v next ≡ joined (signOf (xor (t .negative) (u .negative))) (shifted (v (t .symbol)) (t .exponent)) (shifted (v (u .symbol)) (u .exponent))
+      → termWeight size (joinedTerm next t) ≤ termWeight size t + termWeight size u
+  unfolding termWeight
+  join-small next t u e =
+      let x : ℤ = shifted (v (t .symbol)) (t .exponent) in
+      let y : ℤ = shifted (v (u .symbol)) (u .exponent) in
+      omega (arith, ap natAbs e, joined-small (xor (t .negative) (u .negative)) x y, shifted-size t, shifted-size u)
+
+  summed-small : (bound : ℕ) {next : ℕ} {r : Row} {os : List Operation} {o : Output} → Summed next r os o → Follows v next os → rowWeight size r ≤ bound
+      → (k : ℕ) → next ≤ k → k < next + length os → natAbs (v k) ≤ bound
+  unfolding rowWeight termWeight
+  summed-small bound nothing f h k l m = absurd (omega arith)
+  summed-small bound (last t) f h k l m = absurd (omega arith)
+  summed-small bound {next} (join {after = after} t u others p q s) f h k l m =
+      let lower : rowWeight size (joinedTerm next t ∷ others) ≤ bound = omega (arith, weight-permuted size p, join-small next t u (f .0)) in
       first-or-later (λ (j : ℕ). natAbs (v j) ≤ bound) next k l (omega arith)
-      (λ g. chain-from-small bound (so-far + 2 ^ t .exponent * w (t .symbol)) next 0 turned (suc next) r (omega arith) (λ u i. s u (List·Memᴰ·tail i)) (omega arith) (f .1) k g (omega arith))
+      (λ g. summed-small bound s (f .1) (omega (arith, weight-permuted size q)) k g (omega arith))
 
-  chain-small : (bound next : ℕ) (r : Row) → TermsSmall r → rowWeight w r ≤ bound → Follows v next (chain next r)
-      → (k : ℕ) → next ≤ k → k < next + length (chain next r) → natAbs (v k) ≤ bound
-  unfolding chain rowWeight termWeight
-  chain-small bound next [] s b f k l m = absurd (omega arith)
-  chain-small bound next (t ∷ r) s b f k l m =
-      chain-from-small bound (2 ^ t .exponent * w (t .symbol)) (t .symbol) (t .exponent) (t .negative) next r
-      (shifted-small (t .symbol) (t .exponent) (s t (List·Memᴰ·head refl))) (λ u i. s u (List·Memᴰ·tail i)) b f k l
-      (omega (arith, length-chain next (t ∷ r)))
-
-  chains-small : (bound next : ℕ) (rows : List Row) → EachRow TermsSmall rows → EachRow (λ r. rowWeight w r ≤ bound) rows → Follows v next (chains next rows)
-      → (k : ℕ) → next ≤ k → k < next + length (chains next rows) → natAbs (v k) ≤ bound
-  unfolding chains
-  chains-small bound next [] s b f k l m = absurd (omega arith)
-  chains-small bound next (r ∷ rows) s b f k l m =
-      let os : List Operation = chain next r in
-      let others : List Operation = chains (next + length os) rows in
+  summed-rows-small : (bound : ℕ) {next : ℕ} {rows : List Row} {os : List Operation} {outputs : List Output} → SummedRows next rows os outputs → Follows v next os
+      → EachRow (λ r. rowWeight size r ≤ bound) rows → (k : ℕ) → next ≤ k → k < next + length os → natAbs (v k) ≤ bound
+  summed-rows-small bound end f h k l m = absurd (omega arith)
+  summed-rows-small bound {next} (first-row {os = os} {others = others} s more) f h k l m =
       let both : length (os ++ others) ≡ length os + length others = length-append os others in
       by-order k (next + length os)
-      (λ g. chain-small bound next r (s .0) (b .0) (follows-left v next os others f) k l g)
-      (λ g. chains-small bound (next + length os) rows (s .1) (b .1) (follows-right v next os others f) k g (omega arith))
+      (λ g. summed-small bound s (follows-left v next os others f) (h .0) k l g)
+      (λ g. summed-rows-small bound more (follows-right v next os others f) (h .1) k g (omega arith))
 
   -- the values of rows, and so of outputs
 
-  rows-small : (bound : ℕ) (rows : List Row) → EachRow TermsSmall rows → EachRow (λ r. rowWeight w r ≤ bound) rows → EachSmall bound (map (rowValue v) rows)
-  rows-small bound [] s b = tt
-  rows-small bound (r ∷ rows) s b = (omega (arith, row-within v w r (s .0), b .0), rows-small bound rows (s .1) (b .1))
+  rows-small : (bound : ℕ) (rows : List Row) → EachRow (λ r. rowWeight size r ≤ bound) rows → EachSmall bound (map (rowValue v) rows)
+  rows-small bound [] h = tt
+  rows-small bound (r ∷ rows) h = (omega (arith, row-within v size r (λ t m. le-refl (size (t .symbol))), h .0), rows-small bound rows (h .1))
 
   outputs-small : (bound : ℕ) (os : List Output) → EachSmall bound (map (outputOf v) os) → EachOutput (λ o. natAbs (outputOf v o) ≤ bound) os
   outputs-small bound [] h = tt
   outputs-small bound (o ∷ os) h = (h .0, outputs-small bound os (h .1))
 
-  terms-small : (positions limit : ℕ) (rows : List Row) → EachRow (WellFormed positions limit) rows → ((k : ℕ) → k < limit → natAbs (v k) ≤ w k) → EachRow TermsSmall rows
-  terms-small positions limit [] f h = tt
-  terms-small positions limit (r ∷ rows) f h = ((λ t m. h (t .symbol) (f .0 .symbols t m)), terms-small positions limit rows (f .1) h)
+  sizes-within : (w : ℕ → ℕ) (bound positions limit : ℕ) (rows : List Row) → EachRow (WellFormed positions limit) rows → ((k : ℕ) → k < limit → natAbs (v k) ≤ w k)
+      → EachRow (λ r. rowWeight w r ≤ bound) rows → EachRow (λ r. rowWeight size r ≤ bound) rows
+  sizes-within w bound positions limit [] f h b = tt
+  sizes-within w bound positions limit (r ∷ rows) f h b = (
+    omega (arith, b .0, lighter size w r (each-member (λ t. size (t .symbol) ≤ w (t .symbol)) r (λ t m. h (t .symbol) (f .0 .symbols t m)))),
+    sizes-within w bound positions limit rows (f .1) h (b .1),
+  )
 
 -- ---- the coefficients of every entry and every output
 
 -- the largest weight of a column: 43,690 for 16 positions
 abbrev pub weightBound : ℕ → ℕ
 weightBound positions = 2 ^ suc positions / 3
+
+pub bound-of-16 : weightBound 16 ≡ 43690
+bound-of-16 = refl
+
+pub bound-of-24 : weightBound 24 ≡ 11184810
+bound-of-24 = refl
 
 module _ (positions n : ℕ) (m : List (List ℤ)) (e : Eliminated) (some : 1 ≤ positions) (c : Columns n m) (steps : Stepped n (matrixRows positions m) e)
     (column : ℕ) (inside : column < n) where
@@ -220,11 +230,9 @@ module _ (positions n : ℕ) (m : List (List ℤ)) (e : Eliminated) (some : 1 �
   first-rows : EachRow (λ r. rowWeight w r ≤ bound) (matrixRows positions m)
   first-rows = matrix-weights w positions n column bound m c column-weight (omega arith)
 
-  remaining-rows : EachRow (λ r. rowWeight w r ≤ bound) (e .remainingRows)
-  remaining-rows = steps-rows-within w bound steps weights first-rows
-
-  remaining-terms : EachRow (TermsSmall v w) (e .remainingRows)
-  remaining-terms = terms-small v w positions (n + length (e .divisors)) (e .remainingRows) (steps-well-formed positions steps well-formed) values-small
+  remaining-rows : EachRow (λ r. rowWeight (size v) r ≤ bound) (e .remainingRows)
+  remaining-rows = sizes-within v w bound positions (n + length (e .divisors)) (e .remainingRows) (steps-well-formed positions steps well-formed) values-small
+      (steps-rows-within w bound steps weights first-rows)
 
   entries-small : (k : ℕ) → k < n + length (operationsOf n e) → natAbs (v k) ≤ bound
   entries-small k h =
@@ -233,8 +241,8 @@ module _ (positions n : ℕ) (m : List (List ℤ)) (e : Eliminated) (some : 1 �
       (λ l. omega (arith, values-small k (omega arith), input-small k l))
       (λ l. by-order k next
       (λ g. omega (arith, values-small k g, weight-within w bound n (e .divisors) (steps-weights-within w bound steps weights first-rows) k l g))
-      (λ g. chains-small v w bound next (e .remainingRows) remaining-terms remaining-rows (chains-follow v n e follow) k g
-      (omega (arith, length-operations n e, length-chains next (e .remainingRows)))))
+      (λ g. summed-rows-small v bound (remaining-summed n e) (chains-follow v n e follow) remaining-rows k g
+      (omega (arith, length-operations n e, summed-rows-length (remaining-summed n e)))))
 
   pub entry-coefficient : (k : ℕ) → k < n + length (operationsOf n e) → natAbs (entryAt (machine (unit n column) (operationsOf n e)) k) ≤ weightBound positions
   unfolding v
@@ -242,5 +250,5 @@ module _ (positions n : ℕ) (m : List (List ℤ)) (e : Eliminated) (some : 1 �
 
   pub output-coefficients : EachOutput (λ o. natAbs (outputValue (machine (unit n column) (operationsOf n e)) o) ≤ weightBound positions) (outputsOf n e)
   unfolding v
-  output-coefficients = outputs-small v w bound (outputsOf n e)
-      (subst (EachSmall bound) (sym (outputs-remaining v n e follow)) (rows-small v w bound (e .remainingRows) remaining-terms remaining-rows))
+  output-coefficients = outputs-small v bound (outputsOf n e)
+      (subst (EachSmall bound) (sym (outputs-remaining v n e follow)) (rows-small v bound (e .remainingRows) remaining-rows))

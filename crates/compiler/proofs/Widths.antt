@@ -1,18 +1,19 @@
 -- Document 01, "Netlist and board machine": each recorded width is the width of its operation's or output's value, and recording
 -- widths changes nothing else.
 -- Assumes nothing.
-use Prim.Native.Nat.{ℕ, zero, suc, _+_, _≤_, _<_}
-use mathlib.Core.Path.{_≡_, refl, sym, ap}
+use Prim.Native.Nat.{ℕ, suc, _+_, _≤_, _<_}
+use mathlib.Core.Path.{_≡_, refl, sym, ap, _∙_}
 use mathlib.Core.List.{List, [], _∷_, _++_, map}
 use native.Mathlib.Omega.{arith}
-use lib.IntN.{ℤ, pos}
-use lib.ListN.{length, replicate}
-use Rattle.integers.proofs.Expression.{nat, minus, _⊝_, at-most}
+use lib.IntN.{ℤ}
+use lib.ListN.{length, replicate, length-append}
+use lib.Seq.{append-snoc}
 use Rattle.layout.specs.declared.Operation.{Operation}
 use Rattle.layout.specs.declared.Output.{Output}
-use Rattle.width.specs.Machine.{entryAt, shifted, operationValue, machine, signed, outputValue, operationDepth, depths, largest, depth, entryForm, outputForm}
+use Rattle.width.specs.Machine.{entryAt, operationValue, machine, outputValue, operationDepth, depths, largest, depth, entryForm, outputForm}
 use Rattle.width.specs.Width.{IsWidth, width}
-use Rattle.width.proofs.WidthLaws.{width-same, width-unique, entry-width-is, output-width-is}
+use Rattle.width.proofs.FormLaws.{entry-form-keeps}
+use Rattle.width.proofs.WidthLaws.{width-same, entry-width-is, output-width-is}
 use Rattle.compiler.specs.Compile.{withWidth, withWidths, outputWithWidth}
 use Rattle.compiler.proofs.Operands.{EachOperation, EachOutput}
 
@@ -63,14 +64,9 @@ module _ (s n : ℕ) (os : List Operation) where
   output-width o = width-same (λ xs. outputValue (machine xs os) o) (λ xs. outputValue (machine xs (withWidths s n os n os)) o)
       (λ xs h. ap (λ l. outputValue l o) (sym (machine-with-widths s n os n os xs))) (output-width-is s n os o)
 
-  -- the width of zero is 1
-  zero-width : (f : List ℤ → ℤ) → ((xs : List ℤ) → f xs ≡ pos 0) → IsWidth s n f 1
-  zero-width f e = width-same (λ xs. pos 0) f (λ xs h. sym (e xs)) (record {
-    from-one = omega arith;
-    holds = λ xs h. record { low = at-most (minus (nat 1)) (nat 0) (omega arith); high = at-most (nat 0) (nat 1 ⊝ nat 1) (omega arith) };
-    least = λ v l h. l;
-  })
-
-  pub zero-output-width : (o : Output) → o .sign ≡ 2 → width s (outputForm n os o) ≡ 1
-  zero-output-width o e = width-unique (output-width-is s n os o)
-      (zero-width (λ xs. outputValue (machine xs os) o) (λ xs. ap (λ (k : ℕ). signed k (shifted (entryAt (machine xs os) (o .symbol)) (o .shift))) e))
+-- an operation's width is known as soon as it is there: later operations do not change it
+pub width-known : (s n : ℕ) (before : List Operation) (o : Operation) (after : List Operation)
+    → width s (entryForm n (before ++ (o ∷ after)) (n + length before)) ≡ width s (entryForm n (before ++ (o ∷ [])) (n + length before))
+width-known s n before o after =
+    ap (λ os. width s (entryForm n os (n + length before))) (sym (append-snoc before o after))
+    ∙ ap (width s) (entry-form-keeps n (before ++ (o ∷ [])) after (n + length before) (omega (arith, length-append before (o ∷ []))))

@@ -11,7 +11,7 @@ use Rattle.layout.specs.declared.Operation.{Operation}
 use Rattle.layout.specs.declared.Output.{Output}
 
 -- 0 add or plus, 1 subtract or minus
-abbrev pub signOf : Bool → ℕ
+unfoldable pub signOf : Bool → ℕ
 signOf false = 0
 signOf true = 1
 

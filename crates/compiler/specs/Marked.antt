@@ -3,13 +3,14 @@
 use Prim.Native.Nat.{ℕ}
 use mathlib.Core.Path.{_≡_}
 use mathlib.Core.List.{List, [], _∷_}
-use lib.IntN.{ℤ}
+use lib.IntN.{ℤ, pos, negsuc}
+use lib.ListN.{replicate}
 use Rattle.digits.specs.Marked.{MarkedDigits}
 use Rattle.elimination.specs.Rows.{matrixRows, plainCount}
 use Rattle.elimination.specs.Elimination.{matrixElimination}
 use Rattle.elimination.specs.Marked.{MarkedElimination, single, fourByFour}
 use Rattle.layout.specs.Records.{Netlist}
-use Rattle.width.specs.Marked.{MarkedWidths}
+use Rattle.width.specs.Marked.{MarkedWidths, sumOfTwo, negatedSample, chainOfEight, negatedChain}
 use Rattle.compiler.specs.Compile.{positions, sampleWidth, netlistOf, compiledBytes, compileAnswer}
 use Rattle.compiler.specs.declared.CompileAnswer.{CompileAnswer}
 
@@ -51,8 +52,12 @@ pub record MarkedBanks : Type 0 where
   -- rows 1 1 1 1, 2 1 −1 −2, 1 −1 −1 1, 1 −2 2 −1: 8 operations, depth 2
   pub operations-four : netlistFor 4 4 fourByFour .head .operations ≡ 8
   pub depth-four : netlistFor 4 4 fourByFour .totals .depth ≡ 2
-  -- width of x0 + x1 is 17, of −x0 17, of eight times −32,768 summed 35
+  -- width of x0 + x1 is 17, of −x0 17, of eight times −32,768 summed 35; and these are what such matrices are compiled to
   pub widths : MarkedWidths
+  pub compiled-sum : netlistFor 1 2 ((pos 1 ∷ pos 1 ∷ []) ∷ []) .operations ≡ sumOfTwo
+  pub compiled-negated : netlistFor 1 1 ((negsuc 0 ∷ []) ∷ []) .outputs ≡ negatedSample ∷ []
+  pub compiled-eight : netlistFor 1 8 (replicate 8 (negsuc 32767) ∷ []) .operations ≡ chainOfEight
+  pub output-eight : netlistFor 1 8 (replicate 8 (negsuc 32767) ∷ []) .outputs ≡ negatedChain ∷ []
   -- row 3, −3
   pub bytes-three : compiledBytes threeMinusThree ≡ threeMinusThreeBytes
   pub answer-three : compileAnswer threeMinusThree 49 ≡ threeMinusThreeAnswer

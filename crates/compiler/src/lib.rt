@@ -2,7 +2,7 @@
 pub mod divisors; // divisors.rt: the divisors, by value
 pub mod operations; // operations.rt: the operations, by value
 pub mod outputs; // outputs.rt: the outputs, by value
-pub mod chains; // chains.rt: the operations and outputs of divisors and rows
+pub mod chain; // chain.rt: the operations and outputs of divisors and rows
 pub mod rows; // rows.rt: the rows of a matrix record
 pub mod eliminated; // eliminated.rt: elimination to its end
 pub mod planned; // planned.rt: the operations and outputs of a matrix record, and the counts

@@ -1,6 +1,6 @@
 // Document 01, "Elimination" and "Netlist and board machine": the operations and outputs of a matrix record, without widths, and what
 // compile counts. Rests on `eliminate` and `layout`.
-use super::chains;
+use super::chain;
 use super::eliminated;
 use super::operations::Operations;
 use super::outputs::Outputs;
@@ -25,14 +25,14 @@ pub fn plan(matrix: &[u8]) -> Planned
     let m = matrix[4] as usize;
     let n = matrix[5] as usize;
     let first = rows::matrix_rows(matrix, m, n);
-    let plain = chains::plain_count(first);
+    let plain = chain::plain_count(first);
     let end = eliminated::eliminate_rows(first, n as u16);
     let divisors = end.divisors;
     let remaining = end.rows;
     let count = divisors.count();
-    let made = chains::divisor_operations(divisors);
-    let operations = chains::with_chains(made, remaining, n);
-    let outputs = chains::row_outputs(remaining, (n + count) as u16);
+    let made = chain::divisor_operations(divisors);
+    let operations = chain::with_chains(made, remaining, n);
+    let outputs = chain::row_outputs(remaining, (n + count) as u16);
     Planned {
         operations,
         outputs,

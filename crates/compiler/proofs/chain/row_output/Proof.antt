@@ -1,12 +1,12 @@
--- `compiler::chains::row_output` meets its contract. Assumes nothing.
+-- `compiler::chain::row_output` meets its contract. Assumes nothing.
 use borrow.Author.Needs.{needs}
 use native.Mathlib.Omega.{arith}
 use mathlib.Core.Path.{ap, _∙_}
 use Rattle.eliminate.specs.State.{rowTerms}
 use Rattle.compiler.specs.Chains.{signOf}
 use Rattle.compiler.proofs.ChainLaws.{output-none, output-one-is, output-more-is}
-use Rattle.compiler.proofs.chains.row_output.Statement.{statement}
-use Rattle.compiler.proofs.chains.row_output.Tie as tie
+use Rattle.compiler.proofs.chain.row_output.Statement.{statement}
+use Rattle.compiler.proofs.chain.row_output.Tie as tie
 
 count-requires : tie.Need-count-requires
 count-requires c κs = search needs

@@ -1,4 +1,4 @@
--- `compiler::chains::divisor_operations` meets its contract. Assumes nothing.
+-- `compiler::chain::divisor_operations` meets its contract. Assumes nothing.
 use borrow.Author.Needs.{needs}
 use native.Mathlib.Omega.{arith}
 use Prim.Native.Nat.{_-_, _≤_, _<_}
@@ -10,8 +10,8 @@ use Rattle.layout.specs.declared.Operation.{Operation}
 use Rattle.compiler.specs.Lists.{divisorsList, noDivisor, operationsList}
 use Rattle.compiler.specs.Chains.{divisorOperation}
 use Rattle.compiler.proofs.ChainLaws.{snoc-length, map-next, map-end}
-use Rattle.compiler.proofs.chains.divisor_operations.Statement.{statement}
-use Rattle.compiler.proofs.chains.divisor_operations.Tie as tie
+use Rattle.compiler.proofs.chain.divisor_operations.Statement.{statement}
+use Rattle.compiler.proofs.chain.divisor_operations.Tie as tie
 
 abbrev Inv-loop : tie.InvT-loop
 Inv-loop divisors count out₀ i₀ out i =

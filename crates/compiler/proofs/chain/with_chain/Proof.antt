@@ -1,4 +1,4 @@
--- `compiler::chains::with_chain` meets its contract. Assumes nothing.
+-- `compiler::chain::with_chain` meets its contract. Assumes nothing.
 use borrow.Author.Needs.{needs}
 use native.Mathlib.Omega.{arith}
 use Prim.Native.Nat.{_+_, _-_, _≤_, _<_}
@@ -12,8 +12,8 @@ use Rattle.eliminate.specs.State.{rowTerms, noTerm}
 use Rattle.compiler.specs.Lists.{operationsList}
 use Rattle.compiler.specs.Chains.{chainFrom}
 use Rattle.compiler.proofs.ChainLaws.{snoc-length, summed, chain-next, chain-end, chain-begins, chain-none}
-use Rattle.compiler.proofs.chains.with_chain.Statement.{statement}
-use Rattle.compiler.proofs.chains.with_chain.Tie as tie
+use Rattle.compiler.proofs.chain.with_chain.Statement.{statement}
+use Rattle.compiler.proofs.chain.with_chain.Tie as tie
 
 abbrev Inv-loop : tie.InvT-loop
 Inv-loop row n count turned out₀ symbol₀ shift₀ next₀ i₀ out symbol shift next i =

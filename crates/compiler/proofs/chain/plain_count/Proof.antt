@@ -1,4 +1,4 @@
--- `compiler::chains::plain_count` meets its contract. Assumes nothing.
+-- `compiler::chain::plain_count` meets its contract. Assumes nothing.
 use borrow.Author.Needs.{needs}
 use native.Mathlib.Omega.{arith}
 use Prim.Native.Nat.{ℕ, suc, _+_, _-_, _≤_, _<_, pred}
@@ -9,8 +9,8 @@ use lib.ListN.{length, getD, drop}
 use Rattle.elimination.specs.Rows.{Row, plainCount}
 use Rattle.eliminate.specs.State.{rowsTerms}
 use Rattle.compiler.proofs.ChainLaws.{plain-next, plain-end}
-use Rattle.compiler.proofs.chains.plain_count.Statement.{statement}
-use Rattle.compiler.proofs.chains.plain_count.Tie as tie
+use Rattle.compiler.proofs.chain.plain_count.Statement.{statement}
+use Rattle.compiler.proofs.chain.plain_count.Tie as tie
 
 abbrev Inv-loop : tie.InvT-loop
 Inv-loop rows m plain₀ i₀ plain i = (i ≤ m) × (plain + plainCount (drop i (rowsTerms rows)) ≡ plainCount (rowsTerms rows))

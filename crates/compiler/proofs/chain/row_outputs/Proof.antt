@@ -1,4 +1,4 @@
--- `compiler::chains::row_outputs` meets its contract. Assumes nothing.
+-- `compiler::chain::row_outputs` meets its contract. Assumes nothing.
 use borrow.Author.Needs.{needs}
 use native.Mathlib.Omega.{arith}
 use Prim.Native.Nat.{ℕ, suc, _+_, _-_, _≤_, _<_, pred}
@@ -12,8 +12,8 @@ use Rattle.eliminate.specs.State.{rowTerms, rowsTerms}
 use Rattle.compiler.specs.Lists.{outputsList}
 use Rattle.compiler.specs.Chains.{rowOutput, rowOutputs}
 use Rattle.compiler.proofs.ChainLaws.{snoc-length, plain-next, outputs-next, outputs-end}
-use Rattle.compiler.proofs.chains.row_outputs.Statement.{statement}
-use Rattle.compiler.proofs.chains.row_outputs.Tie as tie
+use Rattle.compiler.proofs.chain.row_outputs.Statement.{statement}
+use Rattle.compiler.proofs.chain.row_outputs.Tie as tie
 
 abbrev Inv-loop : tie.InvT-loop
 Inv-loop rows first m out₀ next₀ i₀ out next i =

@@ -1,8 +1,8 @@
--- `compiler::chains::divisor_operation` meets its contract. Assumes nothing.
+-- `compiler::chain::divisor_operation` meets its contract. Assumes nothing.
 use borrow.Author.Needs.{needs}
 use mathlib.Core.Path.{_≡_}
-use Rattle.compiler.proofs.chains.divisor_operation.Statement.{statement}
-use Rattle.compiler.proofs.chains.divisor_operation.Tie as tie
+use Rattle.compiler.proofs.chain.divisor_operation.Statement.{statement}
+use Rattle.compiler.proofs.chain.divisor_operation.Tie as tie
 
 sign-of-requires : tie.Need-sign-of-requires
 sign-of-requires c κs = search needs

@@ -1,8 +1,8 @@
--- `compiler::chains::chain_operation` meets its contract. Assumes nothing.
+-- `compiler::chain::chain_operation` meets its contract. Assumes nothing.
 use borrow.Author.Needs.{needs}
 use mathlib.Core.Path.{_≡_}
-use Rattle.compiler.proofs.chains.chain_operation.Statement.{statement}
-use Rattle.compiler.proofs.chains.chain_operation.Tie as tie
+use Rattle.compiler.proofs.chain.chain_operation.Statement.{statement}
+use Rattle.compiler.proofs.chain.chain_operation.Tie as tie
 
 negative-requires : tie.Need-negative-requires
 negative-requires c κs = search needs

@@ -1,4 +1,4 @@
--- `compiler::chains::with_chains` meets its contract. Assumes nothing.
+-- `compiler::chain::with_chains` meets its contract. Assumes nothing.
 use borrow.Author.Needs.{needs}
 use native.Mathlib.Omega.{arith}
 use Prim.Native.Nat.{_+_, _-_, _≤_, _<_, pred}
@@ -10,10 +10,9 @@ use Rattle.elimination.specs.Rows.{Row, plainCount}
 use Rattle.eliminate.specs.State.{rowTerms, rowsTerms}
 use Rattle.compiler.specs.Lists.{operationsList}
 use Rattle.compiler.specs.Chains.{chain, chains}
-use Rattle.compiler.proofs.Counts.{length-chain}
-use Rattle.compiler.proofs.ChainLaws.{plain-next, chains-next, chains-end}
-use Rattle.compiler.proofs.chains.with_chains.Statement.{statement}
-use Rattle.compiler.proofs.chains.with_chains.Tie as tie
+use Rattle.compiler.proofs.ChainLaws.{length-chain, plain-next, chains-next, chains-end}
+use Rattle.compiler.proofs.chain.with_chains.Statement.{statement}
+use Rattle.compiler.proofs.chain.with_chains.Tie as tie
 
 abbrev Inv-loop : tie.InvT-loop
 Inv-loop rows n m out₀ i₀ out i =

@@ -1,9 +1,9 @@
--- `compiler::chains::turned_sign` meets its contract. Assumes nothing.
+-- `compiler::chain::turned_sign` meets its contract. Assumes nothing.
 use borrow.Author.Needs.{needs}
 use mathlib.Core.Path.{_∙_}
 use Rattle.compiler.proofs.ChainLaws.{sign-turned, sign-kept}
-use Rattle.compiler.proofs.chains.turned_sign.Statement.{statement}
-use Rattle.compiler.proofs.chains.turned_sign.Tie as tie
+use Rattle.compiler.proofs.chain.turned_sign.Statement.{statement}
+use Rattle.compiler.proofs.chain.turned_sign.Tie as tie
 
 sign-of-requires : tie.Need-sign-of-requires
 sign-of-requires c κs = search needs
