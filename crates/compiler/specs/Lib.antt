@@ -4,3 +4,6 @@ pub mod Sums
 pub mod Limits
 pub mod Compiled
 pub mod Marked
+pub mod Lists
+pub mod Tables
+pub mod Planned

@@ -1,4 +1,17 @@
 // Document 01, "Netlist and board machine": compile, from a matrix record to the netlist's bytes.
+pub mod divisors; // divisors.rt: the divisors, by value
+pub mod operations; // operations.rt: the operations, by value
+pub mod outputs; // outputs.rt: the outputs, by value
+pub mod chain; // chain.rt: the operations and outputs of divisors and rows
+pub mod rows; // rows.rt: the rows of a matrix record
+pub mod eliminated; // eliminated.rt: elimination to its end
+pub mod planned; // planned.rt: the operations and outputs of a matrix record, and the counts
+pub mod write; // write.rt: the netlist's records, with widths and depth
+
+use write::write_netlist;
+ghost use mathlib.Core.Path.{_≡_};
+ghost use lib.ListN.{length};
+ghost use Rattle.compiler.specs.Compile.{compileRefused, compileAnswer, compileBuffer};
 
 // What compile returns: a refusal and its place, or the bytes written and the counts.
 pub struct CompileAnswer {
@@ -12,7 +25,48 @@ pub struct CompileAnswer {
     pub depth: u16,
 }
 
-// Whether a refusal is none.
-pub fn accepts(refusal: u8) -> bool {
-    refusal == 0
+// Every count is 0 where compile refuses, and the place too.
+fn refused(refusal: u8) -> CompileAnswer
+    ensures { λ r. ⌜ r ≡ compileRefused refusal ⌝ }
+{
+    CompileAnswer {
+        refusal,
+        place: 0,
+        written: 0,
+        operations: 0,
+        plain: 0,
+        divisors: 0,
+        replacements: 0,
+        depth: 0,
+    }
+}
+
+// From a matrix record to its netlist, at the start of the lent buffer. Nothing is written before it is known that all of it fits.
+pub fn compile(matrix: &[u8], buffer: &mut [u8]) -> CompileAnswer
+    ensures { λ r. ⌜ r ≡ compileAnswer (now (matrix .entry)) (length (now (buffer .entry))) ⌝ }
+    ensures { λ _. ⌜ now (buffer .exit) ≡ compileBuffer (now (matrix .entry)) (now (buffer .entry)) ⌝ }
+{
+    let refusal = layout::matrix::matrix_refusal(matrix);
+    if refusal != 0 {
+        return refused(refusal);
+    }
+    let plan = planned::plan(matrix);
+    let operations = plan.operations;
+    let outputs = plan.outputs;
+    let count = operations.count();
+    let size = 8 + 12 * count + 9 * outputs.count() + 8;
+    if buffer.len() < size {
+        return refused(6);
+    }
+    let depth = write_netlist(buffer, operations, outputs, matrix[4], matrix[5]);
+    CompileAnswer {
+        refusal: 0,
+        place: 0,
+        written: size,
+        operations: count as u16,
+        plain: plan.plain as u16,
+        divisors: plan.divisors as u16,
+        replacements: plan.replacements as u16,
+        depth,
+    }
 }

@@ -1,0 +1,174 @@
+-- Document 01, "Netlist and board machine": what a matrix record that is not declined gives each part of compile, and compile's answer.
+-- Assumes nothing.
+use Prim.Native.Nat.{ℕ, zero, suc, _+_, _*_, _≤_, _<_}
+use mathlib.Core.Path.{_≡_, refl, sym, ap, ap₂, _∙_, subst}
+use mathlib.Core.List.{List, [], _∷_, _++_, map}
+use native.Mathlib.Omega.{arith}
+use native.Mathlib.Nat.{zero-add}
+use lib.IntN.{ℤ}
+use lib.ListN.{length, getD, drop, length-map}
+use Rattle.layout.specs.declared.Operation.{Operation}
+use Rattle.layout.specs.declared.Output.{Output}
+use Rattle.layout.specs.Matrix.{matrixRefusal, matrix, rows, columns}
+use Rattle.layout.specs.Records.{Netlist, netlistBytes}
+use Rattle.layout.specs.Written.{written}
+use Rattle.layout.proofs.LittleEndian.{AreBytes}
+use Rattle.width.specs.Machine.{depth}
+use Rattle.elimination.specs.declared.Divisor.{Divisor}
+use Rattle.elimination.specs.Rows.{Row, matrixRows, plainCount}
+use Rattle.elimination.specs.Elimination.{Eliminated, smallestFirst, elimination, matrixElimination}
+use Rattle.elimination.proofs.Order.{Columns, matrix-well-formed}
+use Rattle.elimination.proofs.Counts.{plain-within, steps-plain}
+use Rattle.elimination.proofs.Elimination.{steps-of}
+use Rattle.eliminate.specs.State.{Ready}
+use Rattle.eliminate.proofs.Ready.{ready-matrix}
+use Rattle.compiler.specs.Lists.{noOperation, noOutput}
+use Rattle.compiler.specs.Chains.{divisorOperation, chains, rowOutputs}
+use Rattle.compiler.specs.Compile.{positions, sampleWidth, operationsOf, outputsOf, netlistOf, compileRefused, eliminationOf, compiledNetlist, compiledBytes, compileAccepted, compileAnswer, compileBuffer}
+use Rattle.compiler.specs.Limits.{WithinLimits}
+use Rattle.compiler.specs.Tables.{Writable, EarlierOutputs, recordedNetlist}
+use Rattle.compiler.proofs.Limits.{rows-columns, accepted-within}
+use Rattle.compiler.proofs.Counts.{Stepped, length-operations, length-outputs, operations-fewer, netlist-length}
+use Rattle.compiler.proofs.Operands.{OperationInRange, EachOperation, OperationsInRange, operations-in-range, OutputInRange, EachOutput, OutputsInRange, outputs-in-range}
+use Rattle.compiler.proofs.Netlist.{Narrow}
+use Rattle.compiler.proofs.Narrow.{narrow}
+use Rattle.compiler.proofs.Compiled.{answer-refused, buffer-refused}
+use Rattle.compiler.proofs.ChainLaws.{outputs-count}
+
+-- ---- from each one to the one at an index
+
+operation-index : (P : ℕ → Operation → Type 0) (symbol : ℕ) (os : List Operation) → EachOperation P symbol os → (k : ℕ) → k < length os → P (symbol + k) (getD os k noOperation)
+operation-index P symbol [] h k l = absurd (omega arith)
+operation-index P symbol (o ∷ os) h zero l = subst (λ (s : ℕ). P s o) (omega arith) (h .0)
+operation-index P symbol (o ∷ os) h (suc k) l = subst (λ (s : ℕ). P s (getD os k noOperation)) (next symbol k) (operation-index P (suc symbol) os (h .1) k (omega arith))
+  where
+    next : (symbol k : ℕ) → suc symbol + k ≡ symbol + suc k
+    next symbol k = omega arith
+
+output-index : (P : Output → Type 0) (os : List Output) → EachOutput P os → (i : ℕ) → i < length os → P (getD os i noOutput)
+output-index P [] h i l = absurd (omega arith)
+output-index P (o ∷ os) h zero l = h .0
+output-index P (o ∷ os) h (suc i) l = output-index P os (h .1) i (omega arith)
+
+length-matrix-rows : (p : ℕ) (m : List (List ℤ)) → length (matrixRows p m) ≡ length m
+unfolding matrixRows
+length-matrix-rows p [] = refl
+length-matrix-rows p (row ∷ m) = ap suc (length-matrix-rows p m)
+
+module _ (bytes : List ℕ) (all : AreBytes bytes) (accepted : matrixRefusal bytes ≡ 0) where
+  abbrev n : ℕ
+  n = columns bytes
+
+  abbrev first : List Row
+  first = matrixRows positions (matrix bytes)
+
+  abbrev e : Eliminated
+  e = eliminationOf bytes
+
+  pub limits : WithinLimits 16 (rows bytes) (columns bytes) (matrix bytes)
+  limits = accepted-within bytes all accepted
+
+  limited : Columns n (matrix bytes)
+  limited = rows-columns 16 n (matrix bytes) (limits .coefficients)
+
+  steps : Stepped n first e
+  unfolding matrixElimination
+  steps = steps-of smallestFirst positions n (matrix bytes)
+
+  pub plain-most : plainCount (matrixRows positions (matrix bytes)) ≤ 504
+  plain-most = plain-within n (matrix bytes) limited (limits .columns-most) (omega (arith, limits .one-per-row, limits .rows-most))
+
+  pub ready : Ready (columns bytes) (matrixRows positions (matrix bytes))
+  ready = ready-matrix n (matrix bytes) limited (limits .columns-most) (omega (arith, limits .one-per-row, limits .rows-most))
+
+  pub operations-most : length (operationsOf (columns bytes) (eliminationOf bytes)) ≤ 504
+  operations-most = omega (arith, operations-fewer n first e steps, plain-most)
+
+  pub operations-sum : length (eliminationOf bytes .divisors) + plainCount (eliminationOf bytes .remainingRows) ≤ 504
+  operations-sum = omega (arith, length-operations n e, operations-most)
+
+  pub replacements-most : eliminationOf bytes .replacements ≤ 504
+  replacements-most = omega (arith, steps-plain steps, plain-most)
+
+  pub outputs-are : length (outputsOf (columns bytes) (eliminationOf bytes)) ≡ rows bytes
+  outputs-are = length-outputs n first e steps ∙ length-matrix-rows positions (matrix bytes) ∙ limits .one-per-row
+
+  pub remaining-few : length (eliminationOf bytes .remainingRows) ≤ 8
+  unfolding outputsOf
+  remaining-few = omega (arith, outputs-count (n + length (e .divisors)) (e .remainingRows), outputs-are, limits .rows-most)
+
+  in-range : OperationsInRange positions n (operationsOf n e)
+  in-range = operations-in-range positions n first e (omega arith) (matrix-well-formed positions n (matrix bytes) limited) steps
+
+  narrow-widths : Narrow sampleWidth 35 n e
+  narrow-widths = narrow positions n (matrix bytes) e (omega arith) limited steps sampleWidth 3 (omega arith) (limits .columns-most)
+
+  at : (k : ℕ) → k < length (operationsOf n e) → OperationInRange positions (n + k) (getD (operationsOf n e) k noOperation)
+  at k h = operation-index (OperationInRange positions) n (operationsOf n e) in-range k h
+
+  pub writable : Writable (columns bytes) (operationsOf (columns bytes) (eliminationOf bytes))
+  writable = record {
+    inputs = limits .columns-most;
+    few = operations-most;
+    first-earlier = λ k h. at k h .first-earlier;
+    second-earlier = λ k h. at k h .second-earlier;
+    first-shift = λ k h. omega (arith, at k h .first-shift);
+    second-shift = λ k h. omega (arith, at k h .second-shift);
+    narrow = narrow-widths .entries;
+  }
+
+  outputs-within : OutputsInRange positions (n + length (operationsOf n e)) (outputsOf n e)
+  outputs-within = outputs-in-range positions n first e (omega arith) (limits .columns-least) (matrix-well-formed positions n (matrix bytes) limited) steps
+
+  output : (i : ℕ) → i < length (outputsOf n e) → OutputInRange positions (n + length (operationsOf n e)) (getD (outputsOf n e) i noOutput)
+  output i h = output-index (OutputInRange positions (n + length (operationsOf n e))) (outputsOf n e) outputs-within i h
+
+  pub earlier-outputs : EarlierOutputs (columns bytes) (operationsOf (columns bytes) (eliminationOf bytes)) (outputsOf (columns bytes) (eliminationOf bytes))
+  earlier-outputs = record { symbol = λ i h. output i h .symbol; shift = λ i h. omega (arith, output i h .shift) }
+
+  -- the size is known from the counts
+  pub size-is : length (compiledBytes bytes) ≡ 8 + 12 * length (operationsOf (columns bytes) (eliminationOf bytes)) + 9 * length (outputsOf (columns bytes) (eliminationOf bytes)) + 8
+  size-is = netlist-length sampleWidth (rows bytes) n first e steps ∙ omega (arith, length-outputs n first e steps)
+
+pub netlist-is : (bytes : List ℕ) → recordedNetlist sampleWidth (rows bytes) (columns bytes) (operationsOf (columns bytes) (eliminationOf bytes)) (outputsOf (columns bytes) (eliminationOf bytes)) ≡ compiledNetlist bytes
+unfolding netlistOf
+netlist-is bytes = refl
+
+-- ---- compile's answer and buffer
+
+-- the operations of divisors and remaining rows, and the outputs
+pub operations-of : (k : ℕ) (end : Eliminated) (made all : List Operation) (ds : List Divisor) (remaining : List Row)
+    → made ≡ map divisorOperation ds → all ≡ made ++ chains (k + length made) remaining → ds ≡ end .divisors → remaining ≡ end .remainingRows → all ≡ operationsOf k end
+unfolding operationsOf
+operations-of k end made all ds remaining m a d r = a ∙ rw (m, d, r, length-map (end .divisors) divisorOperation)
+
+pub outputs-of : (k : ℕ) (end : Eliminated) (next : ℕ) (all : List Output) (remaining : List Row)
+    → all ≡ rowOutputs next remaining → next ≡ k + length (end .divisors) → remaining ≡ end .remainingRows → all ≡ outputsOf k end
+unfolding outputsOf
+outputs-of k end next all remaining a d r = a ∙ rw (d, r)
+
+pub elimination-is : (bytes : List ℕ) → elimination smallestFirst (columns bytes) (matrixRows positions (matrix bytes)) ≡ eliminationOf bytes
+unfolding matrixElimination
+elimination-is bytes = refl
+
+-- a matrix record that is declined
+pub declined : (bytes buffer : List ℕ) (refusal : ℕ) → refusal ≡ matrixRefusal bytes → (refusal ≡ 0 → ⊥)
+    → (compileRefused refusal ≡ compileAnswer bytes (length buffer)) × (buffer ≡ compileBuffer bytes buffer)
+declined bytes buffer zero e h = absurd (h refl)
+declined bytes buffer (suc r) e h = (sym (answer-refused bytes r (length buffer) (sym e)), sym (buffer-refused bytes r buffer (sym e)))
+
+-- a netlist that is written
+pub accepted-is : (bytes : List ℕ) (size operations plain divisors replacements deep : ℕ)
+    → size ≡ length (compiledBytes bytes) → operations ≡ length (operationsOf (columns bytes) (eliminationOf bytes)) → plain ≡ plainCount (matrixRows positions (matrix bytes))
+    → divisors ≡ length (eliminationOf bytes .divisors) → replacements ≡ eliminationOf bytes .replacements → deep ≡ depth (columns bytes) (operationsOf (columns bytes) (eliminationOf bytes))
+    → record { refusal = 0; place = 0; written = size; operations = operations; plain = plain; divisors = divisors; replacements = replacements; depth = deep } ≡ compileAccepted bytes
+unfolding netlistOf
+accepted-is bytes size operations plain divisors replacements deep a b c d f g = rw (a, b, c, d, f, g)
+
+pub buffer-is : (bytes buffer : List ℕ) (os : List Operation) (outputs : List Output)
+    → os ≡ operationsOf (columns bytes) (eliminationOf bytes) → outputs ≡ outputsOf (columns bytes) (eliminationOf bytes)
+    → written buffer 0 (netlistBytes (recordedNetlist sampleWidth (rows bytes) (columns bytes) os outputs)) ≡ compiledBytes bytes ++ drop (length (compiledBytes bytes)) buffer
+buffer-is bytes buffer os outputs a b =
+    ap₂ (λ (ps : List Operation) (us : List Output). written buffer 0 (netlistBytes (recordedNetlist sampleWidth (rows bytes) (columns bytes) ps us))) a b
+    ∙ ap (λ (net : Netlist). written buffer 0 (netlistBytes net)) (netlist-is bytes)
+    ∙ ap (λ (k : ℕ). compiledBytes bytes ++ drop k buffer) (zero-add (length (compiledBytes bytes)))

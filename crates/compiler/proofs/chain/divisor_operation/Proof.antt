@@ -1,0 +1,18 @@
+-- `compiler::chain::divisor_operation` meets its contract. Assumes nothing.
+use borrow.Author.Needs.{needs}
+use mathlib.Core.Path.{_≡_}
+use Rattle.compiler.proofs.chain.divisor_operation.Statement.{statement}
+use Rattle.compiler.proofs.chain.divisor_operation.Tie as tie
+
+sign-of-requires : tie.Need-sign-of-requires
+sign-of-requires c κs = search needs
+
+returns : tie.Need-returns
+returns c = rw (c .sign-of .ensures)
+
+pub divisor-operation-spec : {M : Type 1} → statement M
+divisor-operation-spec =
+    tie.close
+    (tie.spec
+    sign-of-requires
+    returns)

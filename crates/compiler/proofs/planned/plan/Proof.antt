@@ -1,0 +1,154 @@
+-- `compiler::planned::plan` meets its contract. Assumes nothing.
+use borrow.Author.Needs.{needs}
+use native.Mathlib.Omega.{arith}
+use Prim.Native.Nat.{ℕ, _+_, _≤_}
+use mathlib.Core.Path.{_≡_, sym, ap, subst, _∙_}
+use mathlib.Core.List.{List}
+use lib.ListN.{length, length-map}
+use Rattle.layout.specs.Matrix.{matrixRefusal, matrix, rows, columns}
+use Rattle.layout.proofs.LittleEndian.{AreBytes}
+use Rattle.layout.proofs.MatrixRefusal.{AcceptedMatrix, accepted-matrix}
+use Rattle.elimination.specs.declared.Divisor.{Divisor}
+use Rattle.elimination.specs.Rows.{Row, matrixRows, plainCount}
+use Rattle.elimination.specs.Elimination.{Eliminated, smallestFirst, elimination}
+use Rattle.eliminate.specs.State.{rowsTerms, Ready}
+use Rattle.compiler.specs.Lists.{divisorsList, operationsList}
+use Rattle.compiler.specs.Chains.{divisorOperation}
+use Rattle.compiler.specs.Compile.{positions, eliminationOf}
+use Rattle.compiler.specs.Planned.{eliminatedOf}
+use Rattle.compiler.proofs.PlanLaws.{limits, plain-most, ready, operations-sum, remaining-few, operations-of, outputs-of, elimination-is}
+use Rattle.compiler.proofs.planned.plan.Statement.{statement}
+use Rattle.compiler.proofs.planned.plan.Tie as tie
+
+-- the record is not declined
+module _ (c : tie.After-shared-slice-known) where
+  abbrev bytes : List ℕ
+  bytes = c .before .args .matrix .now
+
+  all : AreBytes bytes
+  all i = omega (arith, c .shared-slice-known .given i)
+
+  accepted : AcceptedMatrix bytes
+  accepted = accepted-matrix bytes (c .before .pre)
+
+shared-slice-read-m : tie.Need-shared-slice-read-m
+shared-slice-read-m c = omega (arith, accepted (c .before) .enough)
+
+cast-m : tie.Need-cast-m
+cast-m c = omega (arith, accepted (c .before) .rows-most)
+
+shared-slice-read-n : tie.Need-shared-slice-read-n
+shared-slice-read-n c = omega (arith, accepted (c .before .before) .enough)
+
+cast-n : tie.Need-cast-n
+cast-n c = omega (arith, accepted (c .before .before) .columns-most)
+
+matrix-rows-requires : tie.Need-matrix-rows-requires
+matrix-rows-requires c κs = let a = accepted (c .before .before) in (a .rows-most, a .columns-most, omega (arith, a .size))
+
+-- the matrix's rows
+module _ (c : tie.After-matrix-rows) where
+  abbrev known : tie.After-shared-slice-known
+  known = c .before .before .before
+
+  first-is : rowsTerms (c .matrix-rows .result) ≡ matrixRows positions (matrix (bytes known))
+  unfolding matrix
+  first-is = c .matrix-rows .ensures
+
+  few : plainCount (rowsTerms (c .matrix-rows .result)) ≤ 504
+  few = omega (arith, ap plainCount first-is, plain-most (bytes known) (all known) (known .before .pre))
+
+plain-count-requires : tie.Need-plain-count-requires
+plain-count-requires c κs = few c
+
+cast-eliminate-rows : tie.Need-cast-eliminate-rows
+cast-eliminate-rows c = omega (arith, accepted (known (c .before)) .columns-most)
+
+eliminate-rows-requires : tie.Need-eliminate-rows-requires
+eliminate-rows-requires c κs =
+    let g = c .before in
+    let k = known g in
+    (subst (λ (rs : List Row). Ready (columns (bytes k)) rs) (sym (first-is g)) (ready (bytes k) (all k) (k .before .pre)), accepted k .columns-most, few g)
+
+-- elimination's end
+module _ (c : tie.After-eliminate-rows) where
+  abbrev start : tie.After-shared-slice-known
+  start = known (c .before .before)
+
+  end-is : eliminatedOf (c .eliminate-rows .result) ≡ eliminationOf (bytes start)
+  end-is = c .eliminate-rows .ensures ∙ ap (elimination smallestFirst (columns (bytes start))) (first-is (c .before .before)) ∙ elimination-is (bytes start)
+
+  divisors-are : divisorsList (c .eliminate-rows .result .divisors) ≡ eliminationOf (bytes start) .divisors
+  divisors-are = ap (λ (e : Eliminated). e .divisors) end-is
+
+  rows-are : rowsTerms (c .eliminate-rows .result .rows) ≡ eliminationOf (bytes start) .remainingRows
+  rows-are = ap (λ (e : Eliminated). e .remainingRows) end-is
+
+  sum : length (divisorsList (c .eliminate-rows .result .divisors)) + plainCount (rowsTerms (c .eliminate-rows .result .rows)) ≤ 504
+  sum = omega (arith, ap (length {A = Divisor}) divisors-are, ap plainCount rows-are, operations-sum (bytes start) (all start) (start .before .pre))
+
+count-requires : tie.Need-count-requires
+count-requires c κs = search needs
+
+divisor-operations-requires : tie.Need-divisor-operations-requires
+divisor-operations-requires c κs = omega (arith, sum (c .before .before .before))
+
+with-chains-requires : tie.Need-with-chains-requires
+with-chains-requires c κs =
+    let g = c .before .before .before .before in
+    let ds = divisorsList (g .eliminate-rows .result .divisors) in
+    (accepted (start g) .columns-most, omega (arith, sum g, ap length (c .divisor-operations .ensures), length-map ds divisorOperation))
+
+add-row-outputs : tie.Need-add-row-outputs
+add-row-outputs c = let g = c .before .before .before .before .before in omega (arith, sum g, c .before .before .count .ensures, accepted (start g) .columns-most)
+
+cast-row-outputs : tie.Need-cast-row-outputs
+cast-row-outputs c = let g = c .before .before .before .before .before in omega (arith, sum g, c .before .before .count .ensures, accepted (start g) .columns-most)
+
+row-outputs-requires : tie.Need-row-outputs-requires
+row-outputs-requires c κs =
+    let g = c .before .before .before .before .before in
+    let k = start g in (
+      omega (arith, sum g, c .before .before .count .ensures, accepted k .columns-most),
+      omega (arith, ap (length {A = Row}) (rows-are g), remaining-few (bytes k) (all k) (k .before .pre)),
+    )
+
+returns : tie.Need-returns
+returns c =
+    let w = c .before in
+    let o = w .before in
+    let count = o .before in
+    let g = count .before .before .before in
+    let k = start g in
+    let n = columns (bytes k) in
+    let e : Eliminated = eliminationOf (bytes k) in
+    let ds = divisorsList (g .eliminate-rows .result .divisors) in
+    let remaining = rowsTerms (g .eliminate-rows .result .rows) in
+    let many : count .count .result ≡ length (e .divisors) = count .count .ensures ∙ ap (length {A = Divisor}) (divisors-are g) in
+    record {
+      operations = operations-of n e (operationsList (o .divisor-operations .result)) _ ds remaining (o .divisor-operations .ensures) (w .with-chains .ensures) (divisors-are g) (rows-are g);
+      outputs = outputs-of n e _ _ remaining (c .row-outputs .ensures) (ap (λ (x : ℕ). n + x) many) (rows-are g);
+      plain = g .before .plain-count .ensures ∙ ap plainCount (first-is (g .before .before));
+      divisors = many;
+      replacements = ap (λ (x : Eliminated). x .replacements) (end-is g);
+    }
+
+pub plan-spec : {M : Type 1} → statement M
+plan-spec =
+    tie.close
+    (tie.spec
+    shared-slice-read-m
+    cast-m
+    shared-slice-read-n
+    cast-n
+    matrix-rows-requires
+    plain-count-requires
+    cast-eliminate-rows
+    eliminate-rows-requires
+    count-requires
+    divisor-operations-requires
+    with-chains-requires
+    add-row-outputs
+    cast-row-outputs
+    row-outputs-requires
+    returns)

@@ -1,0 +1,26 @@
+-- What is worked out of a matrix record before anything is written: elimination's end, and the operations, outputs and counts of compile.
+-- Assumes nothing.
+use Prim.Native.Nat.{ℕ}
+use mathlib.Core.Path.{_≡_}
+use mathlib.Core.List.{List}
+use lib.ListN.{length}
+use Rattle.elimination.specs.Rows.{matrixRows, plainCount}
+use Rattle.elimination.specs.Elimination as rules
+use Rattle.eliminate.specs.State.{rowsTerms}
+use Rattle.layout.specs.Matrix.{matrix, columns}
+use Rattle.compiler.specs.declared.eliminated.Eliminated.{Eliminated}
+use Rattle.compiler.specs.declared.planned.Planned.{Planned}
+use Rattle.compiler.specs.Lists.{divisorsList, operationsList, outputsList}
+use Rattle.compiler.specs.Compile.{positions, operationsOf, outputsOf, eliminationOf}
+
+-- elimination's end by value, as document 01's
+abbrev pub eliminatedOf : Eliminated → rules.Eliminated
+eliminatedOf e = record { divisors = divisorsList (e .divisors); replacements = e .replacements; remainingRows = rowsTerms (e .rows) }
+
+-- what compile writes and counts, widths aside
+pub record PlannedOf (bytes : List ℕ) (p : Planned) : Type 0 where
+  pub operations : operationsList (p .operations) ≡ operationsOf (columns bytes) (eliminationOf bytes)
+  pub outputs : outputsList (p .outputs) ≡ outputsOf (columns bytes) (eliminationOf bytes)
+  pub plain : p .plain ≡ plainCount (matrixRows positions (matrix bytes))
+  pub divisors : p .divisors ≡ length (eliminationOf bytes .divisors)
+  pub replacements : p .replacements ≡ eliminationOf bytes .replacements

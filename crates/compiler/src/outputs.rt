@@ -1,0 +1,56 @@
+// Document 01, "Netlist and board machine": the outputs of a netlist, one per row, by value. Rests on `layout`.
+// The fields are private, so that nothing makes such a list but its methods.
+use layout::Output;
+ghost use mathlib.Core.Path.{_≡_};
+ghost use mathlib.Core.List.{[], _∷_, _++_};
+ghost use Prim.Native.Nat.{_<_};
+ghost use lib.ListN.{length, getD};
+ghost use Rattle.compiler.specs.Lists.{outputsList, noOutput};
+
+// At most 8 rows.
+pub struct Outputs {
+    list: [Output; 8],
+    count: usize,
+}
+
+impl Outputs {
+    pub fn empty() -> Outputs
+        ensures { λ r. ⌜ outputsList r ≡ [] ⌝ }
+    {
+        let o = Output {
+            sign: 0,
+            symbol: 0,
+            shift: 0,
+            width: 0,
+        };
+        Outputs {
+            list: [o; 8],
+            count: 0,
+        }
+    }
+
+    pub fn push(self, o: Output) -> Outputs
+        requires { ⌜ length (outputsList self) < 8 ⌝ }
+        ensures { λ r. ⌜ outputsList r ≡ outputsList self ++ (o ∷ []) ⌝ }
+    {
+        let mut outputs = self;
+        let count = outputs.count;
+        outputs.list[count] = o;
+        outputs.count = count + 1;
+        outputs
+    }
+
+    // No method makes a count above 8.
+    pub fn count(self) -> usize
+        ensures { λ r. ⌜ r ≡ length (outputsList self) ⌝ }
+    {
+        if self.count < 8 { self.count } else { 8 }
+    }
+
+    pub fn output(self, i: usize) -> Output
+        requires { ⌜ i < length (outputsList self) ⌝ }
+        ensures { λ r. ⌜ r ≡ getD (outputsList self) i noOutput ⌝ }
+    {
+        self.list[i]
+    }
+}

@@ -1,0 +1,165 @@
+// Document 01, "Netlist and board machine": the netlist's records, written one after another into the lent buffer, with widths and
+// depth. Rests on `layout` and `width`.
+use super::operations::Operations;
+use super::outputs::Outputs;
+use layout::Head;
+use layout::Operation;
+use layout::Output;
+use layout::Totals;
+ghost use mathlib.Core.Path.{_≡_};
+ghost use mathlib.Core.List.{[], _++_, flatMap, map};
+ghost use Prim.Native.Nat.{_+_, _*_, _≤_, _<_, max};
+ghost use lib.ListN.{length, drop};
+ghost use Rattle.layout.specs.Records.{operationBytes, outputBytes, netlistBytes};
+ghost use Rattle.layout.specs.Written.{written};
+ghost use Rattle.width.specs.Machine.{depth};
+ghost use Rattle.width.specs.Width.{width};
+ghost use Rattle.width.specs.Table.{operationRow, formAppended, HoldsForms, SmallForms, SmallRange};
+ghost use Rattle.compiler.specs.Lists.{operationsList, outputsList};
+ghost use Rattle.compiler.specs.Compile.{sampleWidth, withWidth, withWidths};
+ghost use Rattle.compiler.specs.Tables.{Writable, WritableOutputs, EarlierOutputs, withTableWidth, recordedNetlist, noForms, noDepths};
+
+// The coefficients of one operation into the row of its symbol, and its record, with its width, at the start of the lent part.
+fn write_operation(
+    buffer: &mut [u8],
+    forms: &mut [i64; 4096],
+    o: Operation,
+    symbol: usize,
+    n: usize,
+)
+    requires { ⌜ (symbol < 512) × (n ≤ 8) ⌝ }
+    requires { ⌜ (o .a < symbol) × (o .b < symbol) ⌝ }
+    requires { ⌜ SmallForms (now forms) n o × SmallRange sampleWidth (operationRow (now forms) n o) ⌝ }
+    requires { ⌜ (length (now forms) ≡ 4096) × (12 ≤ length (now buffer)) ⌝ }
+    ensures { λ _. ⌜ now (forms .exit) ≡ formAppended (now (forms .entry)) n o symbol ⌝ }
+    ensures { λ _. ⌜ now (buffer .exit) ≡ operationBytes (withWidth (width sampleWidth (operationRow (now (forms .entry)) n o)) o) ++ drop 12 (now (buffer .entry)) ⌝ }
+{
+    width::append_form(forms, o, symbol, n);
+    let width = width::entry_width(forms, symbol, n, 16);
+    let recorded = Operation {
+        sign: o.sign,
+        a: o.a,
+        sa: o.sa,
+        b: o.b,
+        sb: o.sb,
+        width,
+    };
+    layout::write::write_operation(buffer, recorded);
+}
+
+// All operations, behind the head.
+pub fn write_operations(
+    buffer: &mut [u8],
+    forms: &mut [i64; 4096],
+    operations: Operations,
+    n: usize,
+)
+    requires { ⌜ Writable n (operationsList operations) × HoldsForms n [] (now forms) ⌝ }
+    requires { ⌜ 8 + 12 * length (operationsList operations) ≤ length (now buffer) ⌝ }
+    ensures { λ _. ⌜ HoldsForms n (operationsList operations) (now (forms .exit)) ⌝ }
+    ensures { λ _. ⌜ now (buffer .exit) ≡ written (now (buffer .entry)) 8 (flatMap operationBytes (withWidths sampleWidth n (operationsList operations) n (operationsList operations))) ⌝ }
+{
+    let count = operations.count();
+    for k in 0..count {
+        let o = operations.operation(k);
+        let place = 8 + 12 * k;
+        write_operation(&mut buffer[place..], forms, o, n + k, n);
+    }
+}
+
+// All outputs from a place on, each with the width of its coefficients in the table.
+pub fn write_outputs(
+    buffer: &mut [u8],
+    forms: &[i64; 4096],
+    outputs: Outputs,
+    place: usize,
+    n: usize,
+)
+    requires { ⌜ WritableOutputs (now forms) n (outputsList outputs) ⌝ }
+    requires { ⌜ place + 9 * length (outputsList outputs) ≤ length (now buffer) ⌝ }
+    ensures { λ _. ⌜ now (buffer .exit) ≡ written (now (buffer .entry)) place (flatMap outputBytes (map (withTableWidth sampleWidth n (now (forms .entry))) (outputsList outputs))) ⌝ }
+{
+    let count = outputs.count();
+    for i in 0..count {
+        let o = outputs.output(i);
+        let width = width::output_width(forms, o, n, 16);
+        let recorded = Output {
+            sign: o.sign,
+            symbol: o.symbol,
+            shift: o.shift,
+            width,
+        };
+        let at = place + 9 * i;
+        layout::write::write_output(&mut buffer[at..], recorded);
+    }
+}
+
+fn larger(a: u16, b: u16) -> u16
+    ensures { λ r. ⌜ r ≡ max a b ⌝ }
+{
+    if a < b { b } else { a }
+}
+
+fn no_depths() -> [u16; 512]
+    ensures { λ r. ⌜ r ≡ noDepths 512 ⌝ }
+{
+    [0u16; 512]
+}
+
+fn no_forms() -> [i64; 4096]
+    ensures { λ r. ⌜ r ≡ noForms 4096 ⌝ }
+{
+    [0i64; 4096]
+}
+
+// The netlist's depth: the largest of all operations.
+pub fn depth_of(operations: Operations, n: usize) -> u16
+    requires { ⌜ Writable n (operationsList operations) ⌝ }
+    ensures { λ r. ⌜ r ≡ depth n (operationsList operations) ⌝ }
+{
+    let count = operations.count();
+    let mut depths = no_depths();
+    let mut largest: u16 = 0;
+    for k in 0..count {
+        let depth = width::operation_depth(&depths, operations.operation(k));
+        depths[n + k] = depth;
+        largest = larger(largest, depth);
+    }
+    largest
+}
+
+// The whole netlist, record by record from the buffer's start; hands back its depth.
+pub fn write_netlist(
+    buffer: &mut [u8],
+    operations: Operations,
+    outputs: Outputs,
+    m: u8,
+    n: u8,
+) -> u16
+    requires { ⌜ Writable n (operationsList operations) × EarlierOutputs n (operationsList operations) (outputsList outputs) ⌝ }
+    requires { ⌜ 16 + 12 * length (operationsList operations) + 9 * length (outputsList outputs) ≤ length (now buffer) ⌝ }
+    ensures { λ r. ⌜ r ≡ depth n (operationsList operations) ⌝ }
+    ensures { λ _. ⌜ now (buffer .exit) ≡ written (now (buffer .entry)) 0 (netlistBytes (recordedNetlist sampleWidth m n (operationsList operations) (outputsList outputs))) ⌝ }
+{
+    let count = operations.count();
+    let columns = n as usize;
+    let head = Head {
+        m,
+        n,
+        operations: count as u16,
+    };
+    layout::write::write_head(buffer, head);
+    let mut forms = no_forms();
+    width::start_forms(&mut forms, columns);
+    write_operations(buffer, &mut forms, operations, columns);
+    let place = 8 + 12 * count;
+    write_outputs(buffer, &forms, outputs, place, columns);
+    let depth = depth_of(operations, columns);
+    let totals = Totals {
+        operations: count as u16,
+        depth,
+    };
+    let end = place + 9 * outputs.count();
+    layout::write::write_totals(&mut buffer[end..], totals);
+    depth
+}
