@@ -206,24 +206,39 @@ module _ (matrixBytes : List ℕ) (w : MatrixWithinLimits matrixBytes) where
 -- ---- the theorem
 
 -- of any buffer, outputs and answers that are what the contracts of compile, read and run say
-module _ (matrixBytes buffer after : List ℕ) (samples outputs filled : List ℤ) (answers : Answers) (given : Given matrixBytes buffer samples outputs) where
-  abbrev bytes : List ℕ
-  bytes = bytesWritten (answers .compile) after
-
-  pub claim-of-contracts : answers .compile ≡ compileAnswer matrixBytes (length buffer) → after ≡ compileBuffer matrixBytes buffer
-      → answers .read ≡ readAnswer bytes → answers .run ≡ runAnswer bytes (length samples) (length outputs) → filled ≡ runOutputs bytes samples outputs
-      → Claim matrixBytes after samples filled answers
-  claim-of-contracts compiles writes reads runs fills =
+module _ (matrixBytes buffer after : List ℕ) (samples outputs filled : List ℤ) (answers : Answers)
+    (compiles : answers .compile ≡ compileAnswer matrixBytes (length buffer)) (writes : after ≡ compileBuffer matrixBytes buffer)
+    (reads : answers .read ≡ readAnswer (bytesWritten (answers .compile) after))
+    (runs : answers .run ≡ runAnswer (bytesWritten (answers .compile) after) (length samples) (length outputs))
+    (fills : filled ≡ runOutputs (bytesWritten (answers .compile) after) samples outputs) where
+  pub claim-of-contracts : Given matrixBytes buffer samples outputs → Claim matrixBytes after samples filled answers
+  claim-of-contracts given =
       let w : MatrixWithinLimits matrixBytes = given .within-limits in
       let e : matrixRefusal matrixBytes ≡ 0 = not-refused matrixBytes w in
       let net : Netlist = compiledNetlist matrixBytes in
+      let bytes : List ℕ = bytesWritten (answers .compile) after in
       let written : bytes ≡ compiledBytes matrixBytes = ap₂ bytesWritten compiles writes ∙ bytes-written matrixBytes buffer e (given .long-enough) in
       let there : IsNetlistBytes bytes net = subst (λ b. IsNetlistBytes b net) (sym written) (netlist-there matrixBytes w) in
       let run = run-fills bytes samples outputs net there (given .vector .count ∙ sym (head-columns matrixBytes)) (given .one-per-row ∙ sym (head-rows matrixBytes)) in
       claim-of-answers matrixBytes w after samples filled answers (given .vector)
       (compiles ∙ answer-accepted matrixBytes (length buffer) e (given .long-enough)) written (reads ∙ read-answer bytes net there) (runs ∙ run .0) (fills ∙ run .1)
 
+  -- and they are those that the definitions of the three calls give, whether they accept or not
+  lent : bytesWritten (answers .compile) after ≡ bytesWritten (compileAnswer matrixBytes (length buffer)) (compileBuffer matrixBytes buffer)
+  lent = ap₂ bytesWritten compiles writes
+
+  pub calls-are : (answers ≡ answersOf matrixBytes buffer samples outputs) × ((after ≡ compileBuffer matrixBytes buffer)
+      × ((filled ≡ outputsAfter matrixBytes buffer samples outputs) × (Given matrixBytes buffer samples outputs → Claim matrixBytes after samples filled answers)))
+  calls-are = (same-answers, (writes, (fills ∙ ap (λ b. runOutputs b samples outputs) lent, claim-of-contracts)))
+    where
+      same-answers : answers ≡ answersOf matrixBytes buffer samples outputs
+      same-answers i = record {
+        compile = compiles i;
+        read = (reads ∙ ap readAnswer lent) i;
+        run = (runs ∙ ap (λ b. runAnswer b (length samples) (length outputs)) lent) i;
+      }
+
 pub claim-holds : Demand
-claim-holds matrixBytes buffer samples outputs given =
+claim-holds matrixBytes buffer samples outputs =
     claim-of-contracts matrixBytes buffer (compileBuffer matrixBytes buffer) samples outputs (outputsAfter matrixBytes buffer samples outputs)
-    (answersOf matrixBytes buffer samples outputs) given refl refl refl refl refl
+    (answersOf matrixBytes buffer samples outputs) refl refl refl refl refl

@@ -9,7 +9,7 @@ use lib.IntN.{ℤ, pos, negsuc}
 use lib.ListN.{length, getD, replicate}
 use Rattle.layout.specs.Matrix.{matrix, rowsFrom, coefficientsFrom, coefficientAt, signedWord}
 use Rattle.width.specs.Machine.{times, largest}
-use Rattle.width.specs.Width.{Within, Samples}
+use Rattle.width.specs.Width.{Within}
 use Rattle.width.proofs.WidthLaws.{positive-is, negative-is, between-within}
 use Rattle.compiler.specs.Marked.{threeMinusThree}
 use Rattle.compiler.proofs.Marked.{marked-banks}
