@@ -1,6 +1,7 @@
 // Runs compile on stored cases. Standard input is a list of cases: the length of the lent buffer and the length of a matrix record
 // (2 bytes each, little-endian), then the record's bytes. The answer and the buffer afterwards, which held A5 before, are printed
 // and compared with the output of a second implementation.
+use compiler::CompileAnswer;
 use layout::bytes::word_at;
 use libc::STDIN_FILENO;
 use libc::STDOUT_FILENO;
@@ -26,8 +27,7 @@ fn write_bytes(bytes: &[u8]) {
     io::write_all(STDOUT_FILENO, b"\n");
 }
 
-fn compile_case(matrix: &[u8], buffer: &mut [u8]) {
-    let answer = compiler::compile(matrix, buffer);
+fn write_answer(answer: CompileAnswer) {
     write_number(answer.refusal as u64);
     write_number(answer.place as u64);
     write_number(answer.written as u64);
@@ -37,6 +37,10 @@ fn compile_case(matrix: &[u8], buffer: &mut [u8]) {
     write_number(answer.replacements as u64);
     io::print_decimal(STDOUT_FILENO, answer.depth as u64);
     io::write_all(STDOUT_FILENO, b"\n");
+}
+
+fn compile_case(matrix: &[u8], buffer: &mut [u8]) {
+    write_answer(compiler::compile(matrix, buffer));
     write_bytes(buffer);
 }
 
