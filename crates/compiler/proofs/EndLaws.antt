@@ -1,8 +1,7 @@
 -- Document 01, "Elimination": elimination to its end, one step at a time, where a step's answer says whether it has ended.
 -- Assumes nothing.
 use Prim.Native.Nat.{ℕ, suc, _+_, _≤_, _<_}
-use mathlib.Core.Path.{_≡_, refl, sym, ap, ap₂, _∙_}
-use mathlib.Core.Bool.{true, false}
+use mathlib.Core.Path.{_≡_, sym, ap, ap₂, _∙_}
 use mathlib.Core.List.{List, [], _∷_, _++_, append-assoc, append-nil}
 use native.Mathlib.Omega.{arith}
 use lib.Dec.{ltb}
@@ -10,7 +9,7 @@ use borrow.Author.Tests.{ltb-true, ltb-false}
 use Rattle.elimination.specs.declared.Divisor.{Divisor}
 use Rattle.elimination.specs.Rows.{Row, plainCount}
 use Rattle.elimination.specs.Divisors.{score}
-use Rattle.elimination.specs.Elimination.{Scored, before, pick, rowsAfter, smallestFirst, Eliminated, ended, andThen, eliminate, elimination}
+use Rattle.elimination.specs.Elimination.{Scored, before, pick, rowsAfter, smallestFirst, Eliminated, eliminate, elimination}
 use Rattle.elimination.proofs.Tests.{by-bool}
 use Rattle.elimination.proofs.Counts.{plain-after}
 use Rattle.elimination.proofs.Pick.{pick-score}

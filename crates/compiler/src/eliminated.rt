@@ -1,6 +1,7 @@
 // Document 01, "Elimination": elimination to its end. Rests on `eliminate`.
 use super::divisors::Divisors;
 use eliminate::rows::Rows;
+use term::Term;
 ghost use mathlib.Core.Path.{_≡_};
 ghost use Prim.Native.Nat.{_≤_};
 ghost use Rattle.eliminate.specs.State.{rowsTerms, Ready};
@@ -15,7 +16,7 @@ pub struct Eliminated {
     pub rows: Rows,
 }
 
-// Steps until one replaces nothing. The 252nd divisor has the symbol 259 at the highest, and nothing is left to replace behind it.
+// Steps until one replaces nothing. A divisor beyond the highest symbol would be the 253rd, and then nothing is left to replace.
 pub fn eliminate_rows(rows: Rows, n: u16) -> Eliminated
     requires { ⌜ Ready n (rowsTerms rows) × (n ≤ 8) × (plainCount (rowsTerms rows) ≤ 504) ⌝ }
     ensures { λ r. ⌜ eliminatedOf r ≡ elimination smallestFirst n (rowsTerms rows) ⌝ }
@@ -24,7 +25,7 @@ pub fn eliminate_rows(rows: Rows, n: u16) -> Eliminated
     let mut symbol = n;
     let mut divisors = Divisors::empty();
     let mut replacements: usize = 0;
-    while symbol < 260 {
+    while symbol <= Term::MAX_SYMBOL {
         let step = left.step(symbol);
         if step.replaced == 0 {
             return Eliminated {

@@ -19,6 +19,9 @@ ghost use Rattle.compiler.specs.Lists.{operationsList, outputsList};
 ghost use Rattle.compiler.specs.Compile.{sampleWidth, withWidth, withWidths};
 ghost use Rattle.compiler.specs.Tables.{Writable, WritableOutputs, EarlierOutputs, withTableWidth, recordedNetlist, noForms, noDepths};
 
+// "over all samples from −32,768 to 32,767".
+const SAMPLE_WIDTH: u8 = 16;
+
 // The coefficients of one operation into the row of its symbol, and its record, with its width, at the start of the lent part.
 fn write_operation(
     buffer: &mut [u8],
@@ -35,7 +38,7 @@ fn write_operation(
     ensures { λ _. ⌜ now (buffer .exit) ≡ operationBytes (withWidth (width sampleWidth (operationRow (now (forms .entry)) n o)) o) ++ drop 12 (now (buffer .entry)) ⌝ }
 {
     width::append_form(forms, o, symbol, n);
-    let width = width::entry_width(forms, symbol, n, 16);
+    let width = width::entry_width(forms, symbol, n, SAMPLE_WIDTH);
     let recorded = Operation {
         sign: o.sign,
         a: o.a,
@@ -82,7 +85,7 @@ pub fn write_outputs(
     let count = outputs.count();
     for i in 0..count {
         let o = outputs.output(i);
-        let width = width::output_width(forms, o, n, 16);
+        let width = width::output_width(forms, o, n, SAMPLE_WIDTH);
         let recorded = Output {
             sign: o.sign,
             symbol: o.symbol,

@@ -12,7 +12,7 @@ use Rattle.layout.proofs.LittleEndian.{AreBytes}
 use Rattle.layout.proofs.MatrixRefusal.{accepted-matrix}
 use Rattle.width.specs.Machine.{depth}
 use Rattle.compiler.specs.Lists.{operationsList, outputsList}
-use Rattle.compiler.specs.Compile.{operationsOf, outputsOf, compileRefused, eliminationOf, compiledBytes}
+use Rattle.compiler.specs.Compile.{operationsOf, eliminationOf, compiledBytes}
 use Rattle.compiler.specs.Tables.{Writable, EarlierOutputs}
 use Rattle.compiler.proofs.Compiled.{answer-short, answer-accepted, buffer-short, buffer-accepted}
 use Rattle.compiler.proofs.PlanLaws.{limits, plain-most, operations-most, operations-sum, replacements-most, outputs-are, writable, earlier-outputs, size-is, declined, accepted-is, buffer-is}

@@ -1,6 +1,5 @@
 -- `compiler::chain::chain_operation` meets its contract. Assumes nothing.
 use borrow.Author.Needs.{needs}
-use mathlib.Core.Path.{_≡_}
 use Rattle.compiler.proofs.chain.chain_operation.Statement.{statement}
 use Rattle.compiler.proofs.chain.chain_operation.Tie as tie
 

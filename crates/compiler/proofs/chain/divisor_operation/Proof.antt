@@ -1,6 +1,5 @@
 -- `compiler::chain::divisor_operation` meets its contract. Assumes nothing.
 use borrow.Author.Needs.{needs}
-use mathlib.Core.Path.{_≡_}
 use Rattle.compiler.proofs.chain.divisor_operation.Statement.{statement}
 use Rattle.compiler.proofs.chain.divisor_operation.Tie as tie
 

@@ -1,7 +1,7 @@
 -- `compiler::chain::plain_count` meets its contract. Assumes nothing.
 use borrow.Author.Needs.{needs}
 use native.Mathlib.Omega.{arith}
-use Prim.Native.Nat.{ℕ, suc, _+_, _-_, _≤_, _<_, pred}
+use Prim.Native.Nat.{suc, _+_, _-_, _≤_, _<_, pred}
 use mathlib.Core.Path.{_≡_, ap, _∙_}
 use mathlib.Core.List.{[]}
 use native.Mathlib.Numerals.{add-one}

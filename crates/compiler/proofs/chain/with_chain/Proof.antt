@@ -7,7 +7,6 @@ use mathlib.Core.List.{List, [], _∷_, _++_}
 use native.Mathlib.Numerals.{add-one}
 use lib.ListN.{length, getD, drop}
 use Rattle.layout.specs.declared.Operation.{Operation}
-use Rattle.term.specs.declared.Term.{Term}
 use Rattle.eliminate.specs.State.{rowTerms, noTerm}
 use Rattle.compiler.specs.Lists.{operationsList}
 use Rattle.compiler.specs.Chains.{chainFrom}

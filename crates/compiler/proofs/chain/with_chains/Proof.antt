@@ -7,7 +7,7 @@ use mathlib.Core.List.{[], _++_}
 use native.Mathlib.Numerals.{add-one}
 use lib.ListN.{length, getD, drop, length-append}
 use Rattle.elimination.specs.Rows.{Row, plainCount}
-use Rattle.eliminate.specs.State.{rowTerms, rowsTerms}
+use Rattle.eliminate.specs.State.{rowsTerms}
 use Rattle.compiler.specs.Lists.{operationsList}
 use Rattle.compiler.specs.Chains.{chain, chains}
 use Rattle.compiler.proofs.ChainLaws.{length-chain, plain-next, chains-next, chains-end}

@@ -5,7 +5,7 @@ use Prim.Native.Nat.{ℕ, _+_, _≤_}
 use mathlib.Core.Path.{_≡_, sym, ap, subst, _∙_}
 use mathlib.Core.List.{List}
 use lib.ListN.{length, length-map}
-use Rattle.layout.specs.Matrix.{matrixRefusal, matrix, rows, columns}
+use Rattle.layout.specs.Matrix.{matrix, rows, columns}
 use Rattle.layout.proofs.LittleEndian.{AreBytes}
 use Rattle.layout.proofs.MatrixRefusal.{AcceptedMatrix, accepted-matrix}
 use Rattle.elimination.specs.declared.Divisor.{Divisor}
@@ -16,7 +16,7 @@ use Rattle.compiler.specs.Lists.{divisorsList, operationsList}
 use Rattle.compiler.specs.Chains.{divisorOperation}
 use Rattle.compiler.specs.Compile.{positions, eliminationOf}
 use Rattle.compiler.specs.Planned.{eliminatedOf}
-use Rattle.compiler.proofs.PlanLaws.{limits, plain-most, ready, operations-sum, remaining-few, operations-of, outputs-of, elimination-is}
+use Rattle.compiler.proofs.PlanLaws.{plain-most, ready, operations-sum, remaining-few, operations-of, outputs-of, elimination-is}
 use Rattle.compiler.proofs.planned.plan.Statement.{statement}
 use Rattle.compiler.proofs.planned.plan.Tie as tie
 

@@ -3,12 +3,12 @@ use borrow.Author.Needs.{needs}
 use native.Mathlib.Omega.{arith}
 use Prim.Native.Nat.{ℕ, suc, _+_, _*_, _-_, _≤_, _<_}
 use mathlib.Core.Path.{_≡_, ap, ap₂, _∙_}
-use mathlib.Core.List.{List, [], _∷_, _++_}
+use mathlib.Core.List.{_++_}
 use native.Mathlib.Numerals.{add-one}
 use native.Mathlib.Nat.{mul-le-mul-right}
 use lib.ListN.{length}
 use Rattle.layout.specs.Matrix.{rowsFrom}
-use Rattle.elimination.specs.Rows.{Row, matrixRows}
+use Rattle.elimination.specs.Rows.{matrixRows}
 use Rattle.eliminate.specs.State.{rowTerms, rowsTerms}
 use Rattle.compiler.proofs.ChainLaws.{snoc-length}
 use Rattle.compiler.proofs.RowLaws.{rows-next, rows-end}

@@ -3,7 +3,7 @@ use borrow.Author.Needs.{needs}
 use native.Mathlib.Omega.{arith}
 use Prim.Native.Nat.{ℕ, _+_, _*_, _-_}
 use mathlib.Core.Path.{_≡_, sym, ap, ap₂, subst, _∙_}
-use mathlib.Core.List.{List, [], _++_, flatMap, map}
+use mathlib.Core.List.{List, [], _++_, flatMap}
 use lib.IntN.{ℤ}
 use lib.ListN.{length, take, drop, length-map}
 use Rattle.layout.specs.declared.Head.{Head}

@@ -1,5 +1,4 @@
 -- `compiler::operations::Operations::count` meets its contract. Assumes nothing.
-use mathlib.Core.Path.{_≡_}
 use lib.ListN.{length-map}
 use Rattle.compiler.specs.Lists.{operationsList}
 use Rattle.eliminate.proofs.Filled.{filled-under, filled-whole}

@@ -1,5 +1,4 @@
 -- `compiler::outputs::Outputs::count` meets its contract. Assumes nothing.
-use mathlib.Core.Path.{_≡_}
 use lib.ListN.{length-map}
 use Rattle.compiler.specs.Lists.{outputsList}
 use Rattle.eliminate.proofs.Filled.{filled-under, filled-whole}
