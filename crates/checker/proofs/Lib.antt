@@ -6,4 +6,4 @@ pub mod RecordLaws
 pub mod HeldLaws
 pub mod NetlistLaws
 pub mod CheckLaws
-pub mod RunLaws
+pub mod BoardLaws

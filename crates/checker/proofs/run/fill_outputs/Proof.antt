@@ -20,7 +20,7 @@ use Rattle.checker.specs.Exact.{OutputLimits}
 use Rattle.checker.specs.Tests.{outputsIn}
 use Rattle.checker.specs.Tables.{NetlistRead}
 use Rattle.checker.proofs.NetlistLaws.{head-limits, output-there}
-use Rattle.checker.proofs.RunLaws.{result-at, results-count, set-next, all-set}
+use Rattle.checker.proofs.BoardLaws.{result-at, results-count, set-next, all-set}
 use Rattle.checker.proofs.run.fill_outputs.Statement.{statement}
 use Rattle.checker.proofs.run.fill_outputs.Tie as tie
 

@@ -13,7 +13,7 @@ use Rattle.checker.specs.Tests.{operationsIn, netlistIn}
 use Rattle.checker.specs.Tables.{NetlistRead, BoardReady}
 use Rattle.checker.proofs.HeldLaws.{length-filled}
 use Rattle.checker.proofs.NetlistLaws.{head-limits, answer-accepted}
-use Rattle.checker.proofs.RunLaws.{value-small, outputs-same, run-declines, samples-differ, outputs-differ, counts-agree}
+use Rattle.checker.proofs.BoardLaws.{value-small, outputs-same, run-declines, samples-differ, outputs-differ, counts-agree}
 use borrow.Author.Needs.{needs}
 use Rattle.checker.proofs.run.run.Statement.{statement}
 use Rattle.checker.proofs.run.run.Tie as tie

@@ -13,7 +13,7 @@ use Rattle.checker.specs.Read.{headAt, operationAt}
 use Rattle.checker.specs.Exact.{OperationLimits}
 use Rattle.checker.specs.Tables.{operationsBefore, NetlistRead}
 use Rattle.checker.proofs.NetlistLaws.{head-limits, operation-there}
-use Rattle.checker.proofs.RunLaws.{BoardAt, board-started, board-small, board-next}
+use Rattle.checker.proofs.BoardLaws.{BoardAt, board-started, board-small, board-next}
 use Rattle.checker.proofs.run.run_operations.Statement.{statement}
 use Rattle.checker.proofs.run.run_operations.Tie as tie
 

@@ -13,7 +13,7 @@ use mir.Syntax.{w16, w64}
 use mir.Val.{SFits, toZ, ofZ}
 use Rattle.integers.proofs.Held.{is, held, need-cast, held-cast}
 use Rattle.width.specs.Width.{Within}
-use Rattle.checker.proofs.RunLaws.{sample-within, sample-next}
+use Rattle.checker.proofs.BoardLaws.{sample-within, sample-next}
 use Rattle.checker.proofs.run.start_values.Statement.{statement}
 use Rattle.checker.proofs.run.start_values.Tie as tie
 
