@@ -21,7 +21,7 @@ use Rattle.checker.specs.Read.{operationAt, operationWidth, outputWidth}
 use Rattle.checker.specs.Exact.{OperationLimits, OutputLimits}
 use Rattle.checker.specs.Tests.{firstRecords}
 use Rattle.checker.specs.Tables.{filled, operationsBefore, FormsHeld, DepthsHeld}
-use Rattle.checker.proofs.TestLaws.{length-first}
+use Rattle.checker.proofs.FirstRecords.{length-first}
 
 -- ---- tables that were just made
 

@@ -3,7 +3,7 @@
 use Prim.Native.Nat.{ℕ, zero, suc, _+_, _<_, _≤_}
 use mathlib.Core.Path.{_≡_, refl, sym, _∙_, ap, subst}
 use mathlib.Core.Bool.{Bool, true, false, _&&_}
-use mathlib.Core.Logic.{_↔_, _⊎_, inl, inr}
+use mathlib.Core.Logic.{_↔_, inl, inr}
 use mathlib.Core.List.{List, [], _∷_, _++_}
 use native.Mathlib.Omega.{arith}
 use native.Mathlib.Decide.{decLt}
@@ -17,12 +17,14 @@ use Rattle.layout.specs.declared.Totals.{Totals}
 use Rattle.layout.specs.Bytes.{word}
 use Rattle.layout.specs.Records.{Netlist}
 use Rattle.layout.specs.Step.{remaining, stepRefusal}
-use Rattle.layout.proofs.Accepted.{AcceptedStep, no-header, overrun, below-least, not-refused}
+use Rattle.layout.proofs.Accepted.{no-header, overrun, below-least, not-refused}
 use Rattle.width.specs.Machine.{machine, operationValue, outputValue}
-use Rattle.checker.specs.Read.{Reading, refused, accepted, andThen, readRecord, readRecords, recordRefusal, headAt, headInRange, headRefusal, operationPlace, operationAt, operationInRange, operationWidth, operationRefusal, outputPlace, outputAt, outputInRange, outputWidth, outputRefusal, totalsAt, totalsRight, totalsRefusal, widthRight, leftoverRefusal, readHead, readOperations, readOutputs, readTotals, readNetlist}
+use Rattle.checker.specs.Read.{Reading, refused, accepted, andThen, readRecord, recordRefusal, headAt, headInRange, headRefusal, operationPlace, operationAt, operationInRange, operationWidth, operationRefusal, outputPlace, outputAt, outputInRange, outputWidth, outputRefusal, totalsAt, totalsRight, totalsRefusal, widthRight, leftoverRefusal, readHead, readOperations, readOutputs, readTotals, readNetlist, readRefused, readAccepted, answerOf, readAnswer}
+use Rattle.checker.specs.declared.ReadAnswer.{ReadAnswer}
 use Rattle.checker.specs.Exact.{HeadLimits, OperationLimits, OutputLimits, WidthRight, TotalsRight}
 use Rattle.checker.specs.Tests.{Test, tested, AllPass, FirstFails, Whole, Expected, recordTests, headTests, firstRecords, firstTests, operationTests, outputTests, totalsTests, operationsIn, outputsIn, totalsPlace, netlistIn, readTests}
-use Rattle.checker.proofs.TestLaws.{Decided, RefusedBy, one-test, no-test, both-parts, record-decided, then-decided, length-first, records-decided, declined-first, passed-all}
+use Rattle.checker.proofs.FirstRecords.{length-first}
+use Rattle.checker.proofs.TestLaws.{Decided, RefusedBy, one-test, no-test, both-parts, record-decided, then-decided, records-decided, answer-decided, declined-first, passed-all}
 use Rattle.checker.proofs.Conditions.{and-says, same-says, head-says, operation-says, operation-width-says, output-says, output-width-says, totals-says}
 
 -- ---- 7 and 8: the record due at a place
@@ -184,17 +186,38 @@ one-refusal : {A : Type 0} (r p s q : ℕ) → _≡_ {A = Reading A} (refused r 
 one-refusal r p s q e = (cc, cc)
 
 -- where read refuses, number and place are those of the first test that fails
-pub read-refuses : (b : List ℕ) (r place : ℕ) → (readNetlist b ≡ refused r place) ↔ FirstFails (readTests b) r place
-read-refuses b r place = declined-first (readTests b) (readNetlist b) (accepted (netlistIn b)) refused (read-decided b) one-refusal r place (never-both (netlistIn b) r place)
+pub reading-refused : (b : List ℕ) (r place : ℕ) → (readNetlist b ≡ refused r place) ↔ FirstFails (readTests b) r place
+reading-refused b r place =
+    declined-first (readTests b) (readNetlist b) (accepted (netlistIn b)) refused (read-decided b) one-refusal r place (never-both (netlistIn b) r place)
 
 -- where it accepts, all pass
-pub read-passes : (b : List ℕ) → (readNetlist b ≡ accepted (netlistIn b)) ↔ AllPass (readTests b)
-read-passes b = passed-all (readTests b) (readNetlist b) (accepted (netlistIn b)) refused (read-decided b) (λ r p h. never-both (netlistIn b) r p)
+pub reading-accepted : (b : List ℕ) → (readNetlist b ≡ accepted (netlistIn b)) ↔ AllPass (readTests b)
+reading-accepted b = passed-all (readTests b) (readNetlist b) (accepted (netlistIn b)) refused (read-decided b) (λ r p h. never-both (netlistIn b) r p)
 
 -- and the netlist it reads is the one in the bytes
-pub read-netlist : (b : List ℕ) (net : Netlist) → readNetlist b ≡ accepted net → netlistIn b ≡ net
-read-netlist b net e = go (read-decided b)
+pub reading-netlist : (b : List ℕ) (net : Netlist) → readNetlist b ≡ accepted net → netlistIn b ≡ net
+reading-netlist b net e = go (read-decided b)
   where
     go : Decided (readTests b) (readNetlist b) (accepted (netlistIn b)) refused → netlistIn b ≡ net
     go (inl a) = let same : accepted (netlistIn b) ≡ accepted net = sym (a .0) ∙ e in cc
     go (inr f) = absurd (never-both net (f .0) (f .1) (sym e ∙ f .3))
+
+-- ---- the same of read's whole answer
+
+module _ (b : List ℕ) where
+  pub read-answer-decided : Decided (readTests b) (readAnswer b) (readAccepted (netlistIn b)) readRefused
+  unfolding readAnswer
+  read-answer-decided = answer-decided (readTests b) (readNetlist b) (accepted (netlistIn b)) refused answerOf (read-decided b)
+
+  other-number : (r place : ℕ) → 0 < r → readAccepted (netlistIn b) ≡ readRefused r place → ⊥
+  other-number r place h e = omega (arith, ap (λ (a : ReadAnswer). a .refusal) e)
+
+  -- a refusal, with all counts 0, is that of the first test that fails
+  pub read-refuses : (r place : ℕ) → 0 < r → (readAnswer b ≡ readRefused r place) ↔ FirstFails (readTests b) r place
+  read-refuses r place h =
+      declined-first (readTests b) (readAnswer b) (readAccepted (netlistIn b)) readRefused read-answer-decided
+      (λ r p s q e. (ap (λ (a : ReadAnswer). a .refusal) e, ap (λ (a : ReadAnswer). a .place) e)) r place (other-number r place h)
+
+  -- an answer without a refusal says that all pass
+  pub read-passes : (readAnswer b ≡ readAccepted (netlistIn b)) ↔ AllPass (readTests b)
+  read-passes = passed-all (readTests b) (readAnswer b) (readAccepted (netlistIn b)) readRefused read-answer-decided other-number

@@ -2,13 +2,13 @@
 -- Assumes nothing.
 use Prim.Native.Nat.{ℕ, zero, suc, _+_, _<_}
 use mathlib.Core.Path.{_≡_, refl, sym, _∙_, ap, subst}
-use mathlib.Core.Bool.{Bool, true, false, true≢false}
+use mathlib.Core.Bool.{Bool, true, false, cond, true≢false}
 use mathlib.Core.Logic.{_↔_, _⊎_, inl, inr, ⊎-elim}
 use mathlib.Core.List.{List, [], _∷_, _++_}
 use native.Mathlib.Omega.{arith}
-use lib.ListN.{length, length-append}
 use Rattle.checker.specs.Read.{Reading, refused, accepted, andThen, readRecord, readRecords}
 use Rattle.checker.specs.Tests.{Test, tested, AllPass, FirstFails, firstRecords, firstTests}
+use Rattle.checker.proofs.FirstRecords.{last-or-earlier, length-first}
 
 -- ---- tests one after another
 
@@ -30,6 +30,11 @@ module _ (r p : ℕ) where
   fails-after [] us a f = f
   fails-after (t ∷ ts) us a f = inr (a .0, fails-after ts us (a .1) f)
 
+  pub fails-split : (ts us : List Test) → FirstFails (ts ++ us) r p → FirstFails ts r p ⊎ (AllPass ts × FirstFails us r p)
+  fails-split [] us f = inr (tt, f)
+  fails-split (t ∷ ts) us (inl f) = inl (inl f)
+  fails-split (t ∷ ts) us (inr f) = ⊎-elim (λ g. inl (inr (f .0, g))) (λ g. inr ((f .0, g .0), g .1)) (fails-split ts us (f .1))
+
   -- where one fails, not all pass
   pub fails-not-all : (ts : List Test) → FirstFails ts r p → AllPass ts → ⊥
   fails-not-all [] f a = f
@@ -44,18 +49,44 @@ module _ (r p : ℕ) where
   fails-unique s q (t ∷ ts) (inr f) (inl g) = absurd (g .0 (f .0))
   fails-unique s q (t ∷ ts) (inr f) (inr g) = fails-unique s q ts (f .1) (g .1)
 
-  fails-among : (tests : ℕ → List Test) (j k : ℕ) → FirstFails (firstTests tests j) r p → FirstFails (firstTests tests (j + k)) r p
+  pub fails-among : (tests : ℕ → List Test) (j k : ℕ) → FirstFails (firstTests tests j) r p → FirstFails (firstTests tests (j + k)) r p
   unfolding firstTests
   fails-among tests j zero f = let e : j + 0 ≡ j = omega arith in rw e f
   fails-among tests j (suc k) f =
       let e : j + suc k ≡ suc (j + k) = omega arith in
       rw e (fails-before (firstTests tests (j + k)) (tests (j + k)) (fails-among tests j k f))
 
+-- ---- which numbers stand in a list
+
+abbrev pub NumbersBelow : ℕ → List Test → Type 0
+NumbersBelow k [] = Unit {0}
+NumbersBelow k (t ∷ ts) = (t .number < k) × NumbersBelow k ts
+
+pub numbers-append : (k : ℕ) (ts us : List Test) → NumbersBelow k ts → NumbersBelow k us → NumbersBelow k (ts ++ us)
+numbers-append k [] us a b = b
+numbers-append k (t ∷ ts) us a b = (a .0, numbers-append k ts us (a .1) b)
+
+pub numbers-first : (k : ℕ) (tests : ℕ → List Test) (j : ℕ) → ((i : ℕ) → NumbersBelow k (tests i)) → NumbersBelow k (firstTests tests j)
+unfolding firstTests
+numbers-first k tests zero each = tt
+numbers-first k tests (suc j) each = numbers-append k (firstTests tests j) (tests j) (numbers-first k tests j each) (each j)
+
+pub number-below : (k r p : ℕ) (ts : List Test) → NumbersBelow k ts → FirstFails ts r p → r < k
+number-below k r p [] a f = absurd f
+number-below k r p (t ∷ ts) a (inl f) = omega (arith, a .0, f .1)
+number-below k r p (t ∷ ts) a (inr f) = number-below k r p ts (a .1) (f .1)
+
 -- ---- answers that tests decide
 
 -- the answer where all pass, or that of the first that fails
 abbrev pub Decided : {X : Type 0} → List Test → X → X → (ℕ → ℕ → X) → Type 0
 Decided ts answer passed declined = ((answer ≡ passed) × AllPass ts) ⊎ ((r : ℕ) × (p : ℕ) × (0 < r) × (answer ≡ declined r p) × FirstFails ts r p)
+
+-- an answer made of another
+pub answer-decided : {X Y : Type 0} (ts : List Test) (answer passed : X) (declined : ℕ → ℕ → X) (f : X → Y) → Decided ts answer passed declined
+    → Decided ts (f answer) (f passed) (λ r p. f (declined r p))
+answer-decided ts answer passed declined f (inl a) = inl (ap f (a .0), a .1)
+answer-decided ts answer passed declined f (inr d) = inr (d .0, d .1, d .2, ap f (d .3), d .4)
 
 -- then a declined answer is that of the first test that fails, and the other one says that all pass
 module _ {X : Type 0} (ts : List Test) (answer passed : X) (declined : ℕ → ℕ → X) (d : Decided ts answer passed declined) where
@@ -94,6 +125,12 @@ pub one-test : (ts : List Test) (t : Bool) (P : Type 0) (number place later : �
 one-test ts true P number place later h is d = ⊎-elim (λ a. inl (a .0, (is .0 refl, a .1))) (λ f. inr (f .0, inr (is .0 refl, f .1))) d
 one-test ts false P number place later h is d = inr (h, inl (λ p. true≢false (sym (is .1 p)), refl, refl))
 
+-- a test of the fault
+pub one-fault : (ts : List Test) (t : Bool) (P : Type 0) (number place later : ℕ) → 0 < number → (t ≡ false) ↔ P
+    → RefusedBy ts later place → RefusedBy (tested number place P ∷ ts) (cond t number later) place
+one-fault ts false P number place later h is d = ⊎-elim (λ a. inl (a .0, (is .0 refl, a .1))) (λ f. inr (f .0, inr (is .0 refl, f .1))) d
+one-fault ts true P number place later h is d = inr (h, inl (λ p. true≢false (is .1 p), refl, refl))
+
 pub no-test : (place : ℕ) → RefusedBy [] 0 place
 no-test place = inl (refl, tt)
 
@@ -123,12 +160,54 @@ then-decided ts us first rest x y (inl a) (inr d) =
     inr (d .0, d .1, d .2, ap (λ m. andThen m rest) (a .0) ∙ d .3, fails-after (d .0) (d .1) ts us (a .1) (d .4))
 then-decided ts us first rest x y (inr f) d = inr (f .0, f .1, f .2, ap (λ m. andThen m rest) (f .3), fails-before (f .0) (f .1) ts us (f .4))
 
+-- ---- answers that go on behind a record's refusal, behind a netlist, and behind one more test
+
+pub behind-refusal : {X : Type 0} (ts us : List Test) (refusal place : ℕ) (later passed : X) (declined : ℕ → ℕ → X)
+    → RefusedBy ts refusal place → Decided us later passed declined
+    → Decided (ts ++ us) (elim refusal [ suc r ↦ declined (suc r) place | zero ↦ later ]) passed declined
+behind-refusal ts us zero place later passed declined (inl a) (inl d) = inl (d .0, all-append ts us (a .1) (d .1))
+behind-refusal ts us zero place later passed declined (inl a) (inr d) = inr (d .0, d .1, d .2, d .3, fails-after (d .0) (d .1) ts us (a .1) (d .4))
+behind-refusal ts us zero place later passed declined (inr f) d = absurd (omega arith)
+behind-refusal ts us (suc r) place later passed declined (inl a) d = absurd (omega arith)
+behind-refusal ts us (suc r) place later passed declined (inr f) d = inr (suc r, place, f .0, refl, fails-before (suc r) place ts us (f .1))
+
+pub behind-reading : {A X : Type 0} (ts us : List Test) (reading : Reading A) (x : A) (next : A → X) (passed : X) (declined : ℕ → ℕ → X)
+    → Decided ts reading (accepted x) refused → Decided us (next x) passed declined
+    → Decided (ts ++ us) (elim reading [ refused r p ↦ declined r p | accepted y ↦ next y ]) passed declined
+behind-reading {A = A} {X = X} ts us reading x next passed declined = go
+  where
+    answer : Reading A → X
+    answer m = elim m [ refused r p ↦ declined r p | accepted y ↦ next y ]
+
+    go : Decided ts reading (accepted x) refused → Decided us (next x) passed declined → Decided (ts ++ us) (answer reading) passed declined
+    go (inl a) (inl d) = inl (ap answer (a .0) ∙ d .0, all-append ts us (a .1) (d .1))
+    go (inl a) (inr d) = inr (d .0, d .1, d .2, ap answer (a .0) ∙ d .3, fails-after (d .0) (d .1) ts us (a .1) (d .4))
+    go (inr f) d = inr (f .0, f .1, f .2, ap answer (f .3), fails-before (f .0) (f .1) ts us (f .4))
+
+pub behind-test : {X : Type 0} (us : List Test) (t : Bool) (P : Type 0) (number place : ℕ) (later passed : X) (declined : ℕ → ℕ → X)
+    → 0 < number → (t ≡ true) ↔ P → (P → Decided us later passed declined)
+    → Decided (tested number place P ∷ us) (elim t [ true ↦ later | false ↦ declined number place ]) passed declined
+behind-test us true P number place later passed declined h is d =
+    let p = is .0 refl in
+    ⊎-elim (λ a. inl (a .0, (p, a .1))) (λ f. inr (f .0, f .1, f .2, f .3, inr (p, f .4))) (d p)
+behind-test us false P number place later passed declined h is d =
+    inr (number, place, h, refl, inl (λ p. true≢false (sym (is .1 p)), refl, refl))
+
 -- ---- records of one kind, one after another
 
-pub length-first : {A : Type 0} (fields : ℕ → A) (k : ℕ) → length (firstRecords fields k) ≡ k
-unfolding firstRecords
-length-first fields zero = refl
-length-first fields (suc k) = length-append (firstRecords fields k) (fields k ∷ []) ∙ omega (arith, length-first fields k)
+-- the tests of the first k records pass if those of each do
+pub first-all : (tests : ℕ → List Test) (k : ℕ) → ((i : ℕ) → i < k → AllPass (tests i)) → AllPass (firstTests tests k)
+unfolding firstTests
+first-all tests zero each = tt
+first-all tests (suc k) each = all-append (firstTests tests k) (tests k) (first-all tests k (λ i h. each i (omega arith))) (each k (omega arith))
+
+pub all-first : (tests : ℕ → List Test) (k : ℕ) → AllPass (firstTests tests k) → (i : ℕ) → i < k → AllPass (tests i)
+unfolding firstTests
+all-first tests zero a i h = absurd (omega arith)
+all-first tests (suc k) a i h =
+    let both = all-split (firstTests tests k) (tests k) a in
+    let earlier = all-first tests k (both .0) i in
+    ⊎-elim (λ l. earlier l) (λ e. rw e (both .1)) (last-or-earlier i k h)
 
 module _ {A : Type 0} (refusal : List A → ℕ) (place : ℕ → ℕ) (fields : ℕ → A) where
   abbrev first : ℕ → List A

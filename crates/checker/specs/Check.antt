@@ -1,6 +1,6 @@
 -- Document 01, "Reading, checking, running" and "Why a record was declined": checking a netlist against a matrix.
 -- Assumes nothing.
-use Prim.Native.Nat.{ℕ, zero, suc, _+_}
+use Prim.Native.Nat.{ℕ, zero, suc}
 use mathlib.Core.Bool.{Bool, true, false, _&&_}
 use mathlib.Core.List.{List, [], _∷_}
 use lib.Dec.{eqb}
@@ -30,7 +30,6 @@ sameRow (c ∷ cs) (d ∷ ds) = sameInteger c d && sameRow cs ds
 
 -- 14: the lowest row, counted from i, whose coefficients differ
 unfoldable pub rowsAnswer : ℕ → List Operation → ℕ → List Output → List (List ℤ) → CheckAnswer
-unfolding sameRow
 rowsAnswer n os i [] rs = checked 0 0
 rowsAnswer n os i (o ∷ outputs) [] = checked 0 0
 rowsAnswer n os i (o ∷ outputs) (r ∷ rs) =
@@ -38,7 +37,6 @@ rowsAnswer n os i (o ∷ outputs) (r ∷ rs) =
 
 -- 13: m or n of matrix and netlist differ
 unfoldable pub matchAnswer : List ℕ → Netlist → CheckAnswer
-unfolding rowsAnswer
 matchAnswer matrixBytes net =
     elim (eqb (rows matrixBytes) (net .head .m) && eqb (columns matrixBytes) (net .head .n)) [
       | false ↦ checked 13 0
@@ -47,7 +45,6 @@ matchAnswer matrixBytes net =
 
 -- 1 to 5, 7 to 12, 13, 14
 unfoldable pub checkAnswer : List ℕ → List ℕ → CheckAnswer
-unfolding matchAnswer
 checkAnswer matrixBytes netlistBytes =
     elim (matrixRefusal matrixBytes) [
       | suc r ↦ checked (suc r) 0

@@ -9,6 +9,7 @@ use Rattle.layout.specs.declared.Head.{Head}
 use Rattle.layout.specs.declared.Operation.{Operation}
 use Rattle.layout.specs.declared.Output.{Output}
 use Rattle.layout.specs.declared.Totals.{Totals}
+use Rattle.layout.specs.Matrix.{rows, columns, matrixRefusal, matrix}
 use Rattle.layout.specs.Records.{Netlist, netlistBytes}
 use Rattle.width.specs.Machine.{machine, entryAt, outputValue, times, depth}
 use Rattle.width.specs.Width.{Samples, IsWidth}
@@ -79,3 +80,24 @@ Computes net rows = (xs : List ℤ) → Samples 16 (net .head .n) xs → netlist
 -- output i is row i times vector for every vector of 16-bit samples
 abbrev pub ComputesRow : Netlist → List (List ℤ) → ℕ → Type 0
 ComputesRow net rows i = (xs : List ℤ) → Samples 16 (net .head .n) xs → getD (netlistOutputs net xs) i (pos 0) ≡ times (getD rows i []) xs
+
+-- m and n of matrix and netlist agree
+pub record SameSize (matrixBytes : List ℕ) (h : Head) : Type 0 where
+  pub same-rows : rows matrixBytes ≡ h .m
+  pub same-columns : columns matrixBytes ≡ h .n
+
+-- the bytes are those of a netlist that computes the matrix
+pub record IsNetlistOf (matrixBytes netlistBytes : List ℕ) (net : Netlist) : Type 0 where
+  pub within-limits : matrixRefusal matrixBytes ≡ 0
+  pub netlist : IsNetlistBytes netlistBytes net
+  pub size : SameSize matrixBytes (net .head)
+  pub computes : Computes net (matrix matrixBytes)
+
+-- the bytes are those of a netlist of the matrix's size, and row is the lowest that it does not compute
+pub record LowestRow (matrixBytes netlistBytes : List ℕ) (net : Netlist) (row : ℕ) : Type 0 where
+  pub within-limits : matrixRefusal matrixBytes ≡ 0
+  pub netlist : IsNetlistBytes netlistBytes net
+  pub size : SameSize matrixBytes (net .head)
+  pub among : row < net .head .m
+  pub below : (i : ℕ) → i < row → ComputesRow net (matrix matrixBytes) i
+  pub differs : ComputesRow net (matrix matrixBytes) row → ⊥

@@ -68,7 +68,6 @@ abbrev pub headInRange : Head → Bool
 headInRange h = not (outside (h .m)) && (not (outside (h .n)) && leb (h .operations) maxOperations)
 
 unfoldable pub headRefusal : List ℕ → ℕ
-unfolding recordRefusal
 headRefusal bytes =
     elim (recordRefusal bytes 0 2 8) [
       | suc r ↦ suc r
@@ -90,7 +89,6 @@ operationWidth n os o = width sampleWidth (entryForm n (os ++ (o ∷ [])) (n + l
 
 -- the operation that follows the operations os
 unfoldable pub operationRefusal : List ℕ → ℕ → List Operation → ℕ
-unfolding recordRefusal
 operationRefusal bytes n os =
     elim (recordRefusal bytes (operationPlace (length os)) 3 12) [
       | suc r ↦ suc r
@@ -113,7 +111,6 @@ outputWidth n os o = width sampleWidth (outputForm n os o)
 
 -- output i of a netlist of the operations os
 unfoldable pub outputRefusal : List ℕ → ℕ → List Operation → ℕ → ℕ
-unfolding recordRefusal
 outputRefusal bytes n os i =
     elim (recordRefusal bytes (outputPlace (length os) i) 4 9) [
       | suc r ↦ suc r
@@ -130,7 +127,6 @@ abbrev pub totalsRight : Head → List Operation → Totals → Bool
 totalsRight h os t = eqb (t .operations) (h .operations) && eqb (t .depth) (depth (h .n) os)
 
 unfoldable pub totalsRefusal : List ℕ → ℕ → Head → List Operation → ℕ
-unfolding recordRefusal
 totalsRefusal bytes place h os =
     elim (recordRefusal bytes place 5 8) [
       | suc r ↦ suc r
@@ -178,7 +174,6 @@ abbrev pub leftoverRefusal : List ℕ → ℕ → ℕ
 leftoverRefusal bytes place = elim (ltb place (length bytes)) [ true ↦ 12 | false ↦ 0 ]
 
 unfoldable pub readNetlist : List ℕ → Reading Netlist
-unfolding headRefusal readRecords operationRefusal outputRefusal totalsRefusal
 readNetlist bytes =
     andThen (readHead bytes) (λ h.
     andThen (readOperations bytes h) (λ os.
@@ -196,6 +191,9 @@ abbrev pub readAccepted : Netlist → ReadAnswer
 readAccepted net =
     record { refusal = 0; place = 0; m = net .head .m; n = net .head .n; operations = net .head .operations; depth = net .totals .depth }
 
+abbrev pub answerOf : Reading Netlist → ReadAnswer
+answerOf (refused r place) = readRefused r place
+answerOf (accepted net) = readAccepted net
+
 unfoldable pub readAnswer : List ℕ → ReadAnswer
-unfolding readNetlist
-readAnswer bytes = elim (readNetlist bytes) [ refused r place ↦ readRefused r place | accepted net ↦ readAccepted net ]
+readAnswer bytes = answerOf (readNetlist bytes)

@@ -24,7 +24,6 @@ countsAnswer net samples outputs =
 
 -- 7 to 12, 15, 16, of a netlist's bytes, the number of samples and the number of outputs lent
 unfoldable pub runAnswer : List ℕ → ℕ → ℕ → RunAnswer
-unfolding countsAnswer
 runAnswer bytes samples outputs =
     elim (readNetlist bytes) [ refused r place ↦ ran r place | accepted net ↦ countsAnswer net samples outputs ]
 

@@ -16,7 +16,7 @@ use Rattle.layout.specs.Records.{Netlist}
 use Rattle.layout.specs.Step.{remaining}
 use Rattle.width.specs.Machine.{machine, operationValue, outputValue}
 use Rattle.checker.specs.Read.{headAt, operationPlace, operationAt, outputPlace, outputAt, totalsAt}
-use Rattle.checker.specs.Exact.{HeadLimits, OperationLimits, OutputLimits, WidthRight, TotalsRight, ComputesRow}
+use Rattle.checker.specs.Exact.{HeadLimits, OperationLimits, OutputLimits, WidthRight, TotalsRight, SameSize, ComputesRow}
 
 -- a test's number and place, and what holds where it passes
 pub record Test : Type 1 where
@@ -36,6 +36,8 @@ abbrev pub FirstFails : List Test → ℕ → ℕ → Type 0
 FirstFails [] number place = ⊥
 FirstFails (t ∷ ts) number place =
     ((t .passes → ⊥) × (number ≡ t .number) × (place ≡ t .place)) ⊎ (t .passes × FirstFails ts number place)
+
+-- Below, a comment says in document 01's words when the test fails, and the statement what holds where it passes.
 
 -- ---- read: 7 to 12 record by record
 
@@ -82,7 +84,7 @@ outputTests bytes n os i =
     recordTests bytes place 4 9
     ++ (tested 9 place (OutputLimits (n + length os) o) ∷ tested 10 place (WidthRight n (λ xs. outputValue (machine xs os) o) (o .width)) ∷ [])
 
--- 12, place after totals: bytes left over
+-- 11: totals differ from the head's count or the depth; 12, place after totals: bytes left over
 abbrev pub totalsTests : List ℕ → ℕ → Head → List Operation → List Test
 totalsTests bytes place h os =
     recordTests bytes place 5 8
@@ -103,7 +105,6 @@ netlistIn bytes =
     record { head = headAt bytes; operations = operationsIn bytes; outputs = outputsIn bytes; totals = totalsAt bytes (totalsPlace bytes) }
 
 unfoldable pub readTests : List ℕ → List Test
-unfolding firstTests firstRecords
 readTests bytes =
     let h = headAt bytes in
     let os = operationsIn bytes in
@@ -131,17 +132,12 @@ matrixTests bytes =
     ∷ tested 5 0 (length bytes ≡ 6 + 2 * rows bytes * columns bytes)
     ∷ []
 
--- 13: m or n of matrix and netlist differ
-pub record SameSize (matrixBytes : List ℕ) (h : Head) : Type 0 where
-  pub same-rows : rows matrixBytes ≡ h .m
-  pub same-columns : columns matrixBytes ≡ h .n
-
--- 14, place = row: row i's coefficients differ, that is, output i is not row i times vector for every vector of samples
+-- 14, place = row: its coefficients differ, that is, output i is not row i times vector for every vector of samples
 abbrev pub rowTests : Netlist → List (List ℤ) → ℕ → List Test
 rowTests net rows i = tested 14 i (ComputesRow net rows i) ∷ []
 
+-- 13: m or n of matrix and netlist differ
 unfoldable pub checkTests : List ℕ → List ℕ → List Test
-unfolding readTests
 checkTests matrixBytes netlistBytes =
     let net = netlistIn netlistBytes in
     matrixTests matrixBytes
@@ -152,7 +148,6 @@ checkTests matrixBytes netlistBytes =
 
 -- 15: samples are not n; 16: outputs lent are not m
 unfoldable pub runTests : List ℕ → ℕ → ℕ → List Test
-unfolding readTests
 runTests bytes samples outputs =
     let h = headAt bytes in
     readTests bytes ++ (tested 15 0 (samples ≡ h .n) ∷ tested 16 0 (outputs ≡ h .m) ∷ [])

@@ -6,6 +6,7 @@ use mathlib.Core.List.{List, []}
 use lib.Dec.{ltb, eqb}
 use lib.ListN.{length, take, drop}
 use Rattle.layout.specs.Bytes.{word}
+use Rattle.layout.specs.declared.step.StepAnswer.{StepAnswer}
 use Rattle.layout.specs.declared.step.StepNumbers.{StepNumbers}
 
 -- how many bytes remain at a place; none past the end
@@ -30,3 +31,7 @@ stepNumbers bytes place =
 -- an accepted step: what follows length and kind, up to the next place; a refusal: an empty part
 unfoldable pub payloadAt : List ℕ → ℕ → List ℕ
 payloadAt bytes place = cond (eqb (stepRefusal bytes place) 0) (take (word bytes place - 4) (drop (place + 4) bytes)) []
+
+-- the numbers that a step hands back beside the part
+abbrev pub numbersOf : StepAnswer → StepNumbers
+numbersOf s = record { refusal = s .refusal; place = s .place; kind = s .kind; next = s .next }

@@ -1,7 +1,7 @@
 // Document 01, "Reading, checking, running": the step over a record.
 use super::bytes::word_at;
 ghost use mathlib.Core.Path.{_≡_};
-ghost use Rattle.layout.specs.Step.{stepRefusal, stepNumbers, payloadAt};
+ghost use Rattle.layout.specs.Step.{stepRefusal, stepNumbers, payloadAt, numbersOf};
 
 // A step's numbers. A refusal has the place given, kind 0 and next place 0; an accepted step has refusal 0 at place 0.
 pub struct StepNumbers {
@@ -66,4 +66,28 @@ pub fn payload<'a>(bytes: &'a [u8], place: usize) -> &'a [u8]
     let start = place + 4;
     let end = place + length;
     &bytes[start..end]
+}
+
+// What the step hands back: its numbers, and the payload as a part of the lent bytes.
+pub struct StepAnswer<'a> {
+    pub refusal: u8,
+    pub place: usize,
+    pub kind: u16,
+    pub next: usize,
+    pub payload: &'a [u8],
+}
+
+// The step over the record at a place, for any bytes and any place.
+pub fn step<'a>(bytes: &'a [u8], place: usize) -> StepAnswer<'a>
+    ensures { λ r. ⌜ (numbersOf r ≡ stepNumbers (now (bytes .entry)) place) × (now (r .payload) ≡ payloadAt (now (bytes .entry)) place) ⌝ }
+{
+    let numbers = step_numbers(bytes, place);
+    let part = payload(bytes, place);
+    StepAnswer {
+        refusal: numbers.refusal,
+        place: numbers.place,
+        kind: numbers.kind,
+        next: numbers.next,
+        payload: part,
+    }
 }

@@ -1,12 +1,16 @@
 -- An output's width: its entry's range, shifted, with the ends exchanged if it is minus; a zero output's is 1.
 -- Assumes nothing.
 use Prim.Native.Nat.{ℕ, zero, suc, pred, _+_, _*_, _-_, _^_, _≤_, _<_, max}
-use mathlib.Core.Path.{_≡_, refl, sym, ap₂, _∙_}
+use mathlib.Core.List.{List}
+use mathlib.Core.Path.{_≡_, refl, sym, ap, ap₂, _∙_}
 use native.Mathlib.Omega.{arith}
 use lib.IntN.{ℤ}
-use Rattle.width.specs.Machine.{shifted, signed}
+use Rattle.layout.specs.declared.Operation.{Operation}
+use Rattle.layout.specs.declared.Output.{Output}
+use Rattle.width.specs.Machine.{entryAt, shifted, signed, machine, unit, outputForm}
 use Rattle.width.specs.Width.{positives, negatives, highestOf, lowestOf, bitsFrom, bits, widthOf, width}
 use Rattle.width.specs.Table.{columns, SmallRange}
+use Rattle.width.proofs.FormLaws.{output-columns}
 use Rattle.width.proofs.RangeLaws.{positives-shifted, negatives-shifted, positives-negated, negatives-negated, positives-none, negatives-none}
 
 width-zero : (s : ℕ) → widthOf s 0 0 ≡ 1
@@ -57,3 +61,8 @@ module _ (f : ℕ → ℤ) (n s shift : ℕ) where
       ) in
       rw e (h .spread)
   turned-spread (suc (suc sign)) l h = absurd (omega arith)
+
+-- the width of a zero output is 1
+pub zero-output-width : (s n : ℕ) (os : List Operation) (o : Output) → 1 < o .sign → width s (outputForm n os o) ≡ 1
+zero-output-width s n os o h =
+    ap (width s) (output-columns n os o) ∙ sym (zero-width (λ j. entryAt (machine (unit n j) os) (o .symbol)) n s (o .shift) (o .sign) h)

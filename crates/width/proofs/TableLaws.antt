@@ -163,30 +163,24 @@ module _ (n : ℕ) (os : List Operation) (table : List ℤ) (H : HoldsForms n os
 
 -- ---- values and depths
 
--- the table's first entries are the machine's
-pub value-appended : (xs : List ℤ) (os : List Operation) (o : Operation) (values : List ℤ)
-    → take (length xs + length os) values ≡ machine xs os → length xs + length os < length values
-    → o .a < length xs + length os → o .b < length xs + length os
-    → take (suc (length xs + length os)) (valueAppended values o (length xs + length os)) ≡ machine xs (os ++ (o ∷ []))
-value-appended xs os o values e l ha hb =
-    let k : ℕ = length xs + length os in
-    take-suc-set values k (operationValue values o) l
-    ∙ ap₂ (λ (v : List ℤ) (z : ℤ). v ++ (z ∷ [])) e (operation-same values (machine xs os) o (kept (o .a) ha) (kept (o .b) hb))
-    ∙ sym (machine-snoc xs os o)
-  where
-    kept : (i : ℕ) → i < length xs + length os → entryAt values i ≡ entryAt (machine xs os) i
-    kept i h = sym (getD-take (length xs + length os) values i (pos 0) h) ∙ ap (λ v. entryAt v i) e
+-- what stands in the front of a table
+pub front-at : {A : Type 0} (d : A) (table : List A) {front : List A} (k : ℕ) → take k table ≡ front → (i : ℕ) → i < k → getD table i d ≡ getD front i d
+front-at d table k e i h = sym (getD-take k table i d h) ∙ ap (λ l. getD l i d) e
 
+-- if the table's front is the machine's list, it is so after one operation more
+pub value-appended : (xs : List ℤ) (os : List Operation) (o : Operation) (values : List ℤ) (k : ℕ)
+    → take k values ≡ machine xs os → k < length values → o .a < k → o .b < k
+    → take (suc k) (valueAppended values o k) ≡ machine xs (os ++ (o ∷ []))
+value-appended xs os o values k e l ha hb =
+    take-suc-set values k (operationValue values o) l
+    ∙ ap₂ (λ (v : List ℤ) (z : ℤ). v ++ (z ∷ [])) e (operation-same values (machine xs os) o (front-at (pos 0) values k e (o .a) ha) (front-at (pos 0) values k e (o .b) hb))
+    ∙ sym (machine-snoc xs os o)
+
+-- and so for depths
 pub depth-appended : (ds : List ℕ) (os : List Operation) (o : Operation) (table : List ℕ) (k : ℕ)
     → take k table ≡ depths ds os → k < length table → o .a < k → o .b < k
     → take (suc k) (set table k (operationDepth table o)) ≡ depths ds (os ++ (o ∷ []))
 depth-appended ds os o table k e l ha hb =
     take-suc-set table k (operationDepth table o) l
-    ∙ ap₂ (λ (v : List ℕ) (z : ℕ). v ++ (z ∷ [])) e same
+    ∙ ap₂ (λ (v : List ℕ) (z : ℕ). v ++ (z ∷ [])) e (rw (front-at 0 table k e (o .a) ha, front-at 0 table k e (o .b) hb) refl)
     ∙ sym (depths-snoc ds os o)
-  where
-    kept : (i : ℕ) → i < k → getD table i 0 ≡ getD (depths ds os) i 0
-    kept i h = sym (getD-take k table i 0 h) ∙ ap (λ v. getD v i 0) e
-
-    same : operationDepth table o ≡ operationDepth (depths ds os) o
-    same = rw (kept (o .a) ha, kept (o .b) hb) refl

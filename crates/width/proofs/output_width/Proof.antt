@@ -70,21 +70,18 @@ module _ (c : tie.After-struct-known3) where
   below : c .before .scaled2 .result ≡ negatives (columns (s k .args .n) (f k)) * 2 ^ s k .args .o .shift
   below = c .before .scaled2 .ensures ∙ ap (λ (p : ℕ). p * 2 ^ s k .args .o .shift) (below-is (c .before .before .before))
 
--- what `width_of` asks, in either order
-asked : (P p q p' q' : ℕ) → p ≡ p' → q ≡ q' → P * (p' + q') < 2 ^ 62 → (P * (p + q) < 2 ^ 62) × (P * (q + p) < 2 ^ 62)
-asked P p q p' q' d e h = rw (d, e) (h, omega arith)
+-- what `width_of` asks
+asked : (P : ℕ) {p q p' q' : ℕ} → p ≡ p' → q ≡ q' → P * (p' + q') < 2 ^ 62 → P * (p + q) < 2 ^ 62
+asked P d e h = rw (d, e) h
 
-both : (c : tie.After-struct-known3) → let P = 2 ^ (s (k c) .args .s - 1) in let p = c .before .before .scaled .result in let q = c .before .scaled2 .result in
-    (P * (p + q) < 2 ^ 62) × (P * (q + p) < 2 ^ 62)
-both c = asked (2 ^ (s (k c) .args .s - 1)) (c .before .before .scaled .result) (c .before .scaled2 .result)
-    (positives (columns (s (k c) .args .n) (f (k c))) * 2 ^ s (k c) .args .o .shift) (negatives (columns (s (k c) .args .n) (f (k c))) * 2 ^ s (k c) .args .o .shift)
-    (above c) (below c) (spread (k c))
+scaled-spread : (c : tie.After-struct-known3) → 2 ^ (s (k c) .args .s - 1) * (c .before .before .scaled .result + c .before .scaled2 .result) < 2 ^ 62
+scaled-spread c = asked (2 ^ (s (k c) .args .s - 1)) (above c) (below c) (spread (k c))
 
 width-of-requires : tie.Need-width-of-requires
-width-of-requires c κs = (s (k (c .before)) .pre .1 .0, both (c .before) .0)
+width-of-requires c κs = (s (k (c .before)) .pre .1 .0, omega (arith, scaled-spread (c .before)))
 
 width-of-requires-2 : tie.Need-width-of-requires-2
-width-of-requires-2 c κs = (s (k (c .before)) .pre .1 .0, both (c .before) .1)
+width-of-requires-2 c κs = (s (k (c .before)) .pre .1 .0, omega (arith, scaled-spread (c .before)))
 
 returns-2 : tie.Need-returns-2
 returns-2 c = let d = c .before .before in let t = s (k d) in

@@ -19,7 +19,7 @@ use Rattle.checker.specs.Check.{sameRow, rowsAnswer}
 use Rattle.checker.specs.Exact.{OutputLimits}
 use Rattle.checker.specs.Tests.{operationsIn, outputsIn}
 use Rattle.checker.specs.Tables.{NetlistHeld, SameSizes, RowReady, rowsMatched}
-use Rattle.checker.proofs.TestLaws.{length-first}
+use Rattle.checker.proofs.FirstRecords.{length-first}
 use Rattle.checker.proofs.NetlistLaws.{head-limits, output-there}
 use Rattle.checker.proofs.CheckLaws.{row-same, row-differs, rows-end, row-compared, row-ready}
 use Rattle.checker.proofs.check.rows_answer.Statement.{statement}

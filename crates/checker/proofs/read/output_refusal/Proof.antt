@@ -13,7 +13,7 @@ use Rattle.width.specs.Table.{outputRow}
 use Rattle.checker.specs.Read.{recordRefusal, operationAt, outputPlace, outputAt, outputInRange, outputWidth, widthRight}
 use Rattle.checker.specs.Exact.{OutputLimits}
 use Rattle.checker.specs.Tables.{operationsBefore}
-use Rattle.checker.proofs.TestLaws.{length-first}
+use Rattle.checker.proofs.FirstRecords.{length-first}
 use Rattle.checker.proofs.Conditions.{output-says}
 use Rattle.checker.proofs.RecordLaws.{output-stops, output-outside, output-wide, output-accepted}
 use Rattle.checker.proofs.HeldLaws.{output-row-width, output-range}

@@ -21,7 +21,10 @@ cast-high : tie.Need-cast-high
 cast-high c = omega (arith, c .shared-slice-known2 .given (c .before .before .args .place + 1))
 
 mul-result : tie.Need-mul-result
-mul-result c = omega (arith, c .shared-slice-known2 .given (c .before .before .args .place + 1))
+mul-result c =
+    let given = c .shared-slice-known2 .given in
+    let place = c .before .before .args .place in
+    omega (arith, given place, given (place + 1))
 
 add-result : tie.Need-add-result
 add-result c =

@@ -42,7 +42,7 @@ same-length c = search needs
 
 returns : tie.Need-returns
 unfolding headPayload
-returns c = let s = c .before .before in sets-eq (headBytes (s .args .head)) (s .args .buf .now) 0 (s .pre)
+returns c = let s = c .before .before in sets-eq (headBytes (s .args .head)) (s .args .buf .now) 0 (omega arith)
 
 pub write-head-spec : {M : Type 1} → statement M
 write-head-spec =

@@ -60,7 +60,7 @@ same-length c = simp length-set (omega arith)
 
 returns : tie.Need-returns
 unfolding operationPayload
-returns c = let s = c .before .before .before .before in sets-eq (operationBytes (s .args .operation)) (s .args .buf .now) 0 (s .pre)
+returns c = let s = c .before .before .before .before in sets-eq (operationBytes (s .args .operation)) (s .args .buf .now) 0 (omega arith)
 
 pub write-operation-spec : {M : Type 1} → statement M
 write-operation-spec =

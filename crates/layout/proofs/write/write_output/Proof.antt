@@ -45,7 +45,7 @@ same-length c = search needs
 
 returns : tie.Need-returns
 unfolding outputPayload
-returns c = let s = c .before .before in sets-eq (outputBytes (s .args .output)) (s .args .buf .now) 0 (s .pre)
+returns c = let s = c .before .before in sets-eq (outputBytes (s .args .output)) (s .args .buf .now) 0 (omega arith)
 
 pub write-output-spec : {M : Type 1} → statement M
 write-output-spec =

@@ -48,7 +48,7 @@ same-length c = search needs
 
 returns : tie.Need-returns
 unfolding totalsPayload
-returns c = let s = c .before .before .before .before in sets-eq (totalsBytes (s .args .totals)) (s .args .buf .now) 0 (s .pre)
+returns c = let s = c .before .before .before .before in sets-eq (totalsBytes (s .args .totals)) (s .args .buf .now) 0 (omega arith)
 
 pub write-totals-spec : {M : Type 1} → statement M
 write-totals-spec =
