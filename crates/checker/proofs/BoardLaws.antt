@@ -22,12 +22,11 @@ use Rattle.width.proofs.BoundLaws.{entry-small}
 use Rattle.width.proofs.TableLaws.{value-appended}
 use Rattle.checker.specs.declared.ReadAnswer.{ReadAnswer}
 use Rattle.checker.specs.declared.RunAnswer.{RunAnswer}
-use Rattle.checker.specs.Read.{Reading, refused, accepted, readNetlist, readRefused, readAccepted, readAnswer, headAt, operationAt, outputAt}
+use Rattle.checker.specs.Read.{Reading, refused, accepted, readNetlist, answerOf, readAnswer, headAt, operationAt, outputAt}
 use Rattle.checker.specs.Run.{ran, countsAnswer, runAnswer, netlistOutputs, runOutputs}
 use Rattle.checker.specs.Tests.{firstRecords, operationsIn, outputsIn}
 use Rattle.checker.specs.Tables.{operationsBefore, NetlistRead}
-use Rattle.checker.proofs.FirstRecords.{length-first}
-use Rattle.checker.proofs.CheckLaws.{first-at}
+use Rattle.checker.proofs.FirstRecords.{length-first, getD-first}
 use Rattle.checker.proofs.NetlistLaws.{head-limits, operation-there, output-there}
 
 -- ---- a 16-bit sample lies within 16 bits
@@ -85,9 +84,7 @@ module _ (b : List ℕ) (N : NetlistRead b) where
         let L = operation-there b N k l .1 in
         let H = head-limits b N in
         let s : headAt b .n + suc k ≡ suc (headAt b .n + k) = omega arith in
-        rw s (value-appended xs (operationsBefore b k) (operationAt b k) values (headAt b .n + k) e
-        (omega (arith, room, H .columns-most, H .few)) (omega (arith, L .first-earlier, length-first (operationAt b) k))
-        (omega (arith, L .second-earlier, length-first (operationAt b) k)))
+        rw s (value-appended xs (operationsBefore b k) (operationAt b k) values (headAt b .n + k) e (omega (arith, room, H .columns-most, H .few)) (L .first-earlier) (L .second-earlier))
 
   module _ (m : ℕ) (same : m ≡ headAt b .n) (xs : List ℤ) (k : ℕ) (values : List ℤ) (B : BoardAt b m k xs values) where
     abbrev board : BoardAt b (headAt b .n) k xs values
@@ -110,7 +107,7 @@ module _ (b : List ℕ) (N : NetlistRead b) where
       → outputValue values (outputAt b (headAt b .operations) i) ≡ getD (map (outputValue values) (outputsIn b)) i (outputValue values (outputAt b 0 0))
   result-at values i h = sym (
       List·getD-map (outputValue values) (outputsIn b) i (outputAt b 0 0)
-      ∙ ap (outputValue values) (first-at (outputAt b (length (operationsIn b))) (outputAt b 0 0) (headAt b .m) i h)
+      ∙ ap (outputValue values) (getD-first (outputAt b (length (operationsIn b))) (headAt b .m) i (outputAt b 0 0) h)
       ∙ ap (λ (k : ℕ). outputValue values (outputAt b k i)) (length-first (operationAt b) (headAt b .operations)))
 
   pub results-count : (values : List ℤ) → length (map (outputValue values) (outputsIn b)) ≡ headAt b .m
@@ -171,7 +168,7 @@ abbrev filledBy : List ℤ → List ℤ → Bool → Bool → List ℤ
 filledBy outputs results s t = elim s [ false ↦ outputs | true ↦ elim t [ false ↦ outputs | true ↦ results ] ]
 
 module _ (b : List ℕ) (samples outputs : List ℤ) where
-  refuses : (x : Reading Netlist) (a : ReadAnswer) → a ≡ elim x [ refused r p ↦ readRefused r p | accepted net ↦ readAccepted net ] → (a .refusal ≡ 0 → ⊥)
+  refuses : (x : Reading Netlist) (a : ReadAnswer) → a ≡ answerOf x → (a .refusal ≡ 0 → ⊥)
       → (ran (a .refusal) (a .place) ≡ afterNetlist (length samples) (length outputs) x) × (outputs ≡ outputsAfter samples outputs x)
   refuses (refused r p) a e h = (rw e refl, refl)
   refuses (accepted net) a e h = absurd (h (ap (λ (t : ReadAnswer). t .refusal) e))

@@ -3,13 +3,12 @@
 use Prim.Native.Nat.{ℕ, zero, suc, _+_, _*_, _-_, _≤_, _<_}
 use mathlib.Core.Path.{_≡_, refl, sym, ap, ap₂, _∙_, subst}
 use mathlib.Core.Bool.{Bool, true, false, _&&_}
-use mathlib.Core.List.{List, [], _∷_, _++_}
+use mathlib.Core.List.{List, []}
 use native.Mathlib.Omega.{arith}
-use native.Mathlib.Decide.{decLt}
 use lib.Dec.{eqb}
 use lib.IntN.{ℤ, pos, negsuc}
-use lib.ListN.{length, getD, drop, List·getD-append, drop-of-length-le}
-use lib.Seq.{drop-cons, getD-at}
+use lib.ListN.{length, getD, drop, drop-of-length-le}
+use lib.Seq.{drop-cons}
 use borrow.Author.Tests.{eq-eqb, ne-eqb}
 use Rattle.layout.specs.declared.Operation.{Operation}
 use Rattle.layout.specs.declared.Output.{Output}
@@ -21,11 +20,11 @@ use Rattle.layout.proofs.MatrixRows.{matrix-row, coefficient-there}
 use Rattle.width.specs.Table.{columnsFrom, outputRow}
 use Rattle.checker.specs.declared.CheckAnswer.{CheckAnswer}
 use Rattle.checker.specs.declared.ReadAnswer.{ReadAnswer}
-use Rattle.checker.specs.Read.{Reading, refused, accepted, readNetlist, readRefused, readAccepted, readAnswer, headAt, operationAt, outputAt}
+use Rattle.checker.specs.Read.{Reading, refused, accepted, readNetlist, answerOf, readAnswer, headAt, operationAt, outputAt}
 use Rattle.checker.specs.Check.{checked, sameInteger, sameRow, rowsAnswer, matchAnswer, checkAnswer}
-use Rattle.checker.specs.Tests.{firstRecords, operationsIn, outputsIn}
+use Rattle.checker.specs.Tests.{operationsIn, outputsIn}
 use Rattle.checker.specs.Tables.{NetlistHeld, RowReady}
-use Rattle.checker.proofs.FirstRecords.{length-first}
+use Rattle.checker.proofs.FirstRecords.{length-first, getD-first}
 use Rattle.checker.proofs.HeldLaws.{output-row-held, output-coefficient-small}
 use Rattle.checker.proofs.NetlistLaws.{output-there}
 
@@ -75,17 +74,6 @@ module _ (f : ℕ → ℤ) (m : List ℕ) (index n : ℕ) where
 
 -- ---- the rows that are left
 
-pub first-at : {A : Type 0} (fields : ℕ → A) (d : A) (m i : ℕ) → i < m → getD (firstRecords fields m) i d ≡ fields i
-unfolding firstRecords
-first-at fields d zero i h = absurd (omega arith)
-first-at fields d (suc m) i h = go (decLt i m) (λ l. first-at fields d m i l)
-  where
-    go : Dec (i < m) → (i < m → getD (firstRecords fields m) i d ≡ fields i) → getD (firstRecords fields m ++ (fields m ∷ [])) i d ≡ fields i
-    go (yes l) before = List·getD-append (firstRecords fields m) (fields m ∷ []) d i (omega (arith, length-first fields m)) ∙ before l
-    go (no l) before =
-        let e : i ≡ m = omega arith in
-        rw e (getD-at (firstRecords fields m) (fields m) [] d m (length-first fields m))
-
 abbrev afterRow : ℕ → CheckAnswer → Bool → CheckAnswer
 afterRow i later t = elim t [ true ↦ later | false ↦ checked 14 i ]
 
@@ -119,7 +107,7 @@ module _ (b m : List ℕ) (forms : List ℤ) (H : NetlistHeld b forms) (i : ℕ)
       (ap (λ (c : ℕ). coefficientsFrom m (i * c) c) (sym e) ∙ sym (matrix-row m i l))
     where
       output-is : getD (outputsIn b) i (outputAt b 0 0) ≡ outputAt b (headAt b .operations) i
-      output-is = first-at (outputAt b (length (operationsIn b))) (outputAt b 0 0) (headAt b .m) i h
+      output-is = getD-first (outputAt b (length (operationsIn b))) (headAt b .m) i (outputAt b 0 0) h
           ∙ ap (λ (k : ℕ). outputAt b k i) (length-first (operationAt b) (headAt b .operations))
 
   pub row-ready : AcceptedMatrix m → i < rows m → columns m ≡ headAt b .n → RowReady m (i * headAt b .n) (headAt b .n) forms (outputAt b (headAt b .operations) i)
@@ -155,7 +143,7 @@ module _ (m b : List ℕ) where
     behind-matrix : afterNetlist m (readNetlist b) ≡ checkAnswer m b
     behind-matrix = ap (λ (r : ℕ). afterMatrix r (afterNetlist m (readNetlist b))) (sym due) ∙ by-parts
 
-    refuses : (x : Reading Netlist) (a : ReadAnswer) → a ≡ elim x [ refused r p ↦ readRefused r p | accepted net ↦ readAccepted net ] → (a .refusal ≡ 0 → ⊥)
+    refuses : (x : Reading Netlist) (a : ReadAnswer) → a ≡ answerOf x → (a .refusal ≡ 0 → ⊥)
         → checked (a .refusal) (a .place) ≡ afterNetlist m x
     refuses (refused r p) a e h = rw e refl
     refuses (accepted net) a e h = absurd (h (ap (λ (t : ReadAnswer). t .refusal) e))

@@ -1,4 +1,4 @@
--- Theorems about reading, checking and running a netlist, lowest first; then what the code's proofs rest on.
+-- Theorems about reading, checking and running a netlist, lowest first.
 pub mod FirstRecords
 pub mod TestLaws
 pub mod Conditions

@@ -10,9 +10,8 @@ use borrow.Author.Tests.{lt-ltb, le-ltb}
 use Rattle.layout.specs.declared.Head.{Head}
 use Rattle.layout.specs.declared.Totals.{Totals}
 use Rattle.layout.specs.Records.{Netlist}
-use Rattle.checker.specs.declared.ReadAnswer.{ReadAnswer}
 use Rattle.checker.specs.declared.read.Refusal.{Refusal}
-use Rattle.checker.specs.Read.{Reading, refused, accepted, recordRefusal, headAt, headRefusal, operationPlace, operationAt, operationRefusal, outputPlace, outputAt, outputRefusal, totalsAt, totalsRefusal, readOperations, readOutputs, leftoverRefusal, readNetlist, readRefused, readAccepted, readAnswer}
+use Rattle.checker.specs.Read.{Reading, refused, accepted, recordRefusal, headAt, headRefusal, operationPlace, operationAt, operationRefusal, outputPlace, outputAt, outputRefusal, totalsAt, totalsRefusal, readOperations, readOutputs, leftoverRefusal, readNetlist, readRefused, readAccepted, answerOf, readAnswer}
 use Rattle.checker.specs.Exact.{HeadLimits, OperationLimits, OutputLimits}
 use Rattle.checker.specs.Tests.{firstRecords, operationsIn, outputsIn, totalsPlace, netlistIn}
 use Rattle.checker.specs.Tables.{refusalOf, NetlistRead}
@@ -35,9 +34,6 @@ pub declined : {A B : Type 0} (x : Reading A) (y : Reading B) (r : Refusal) → 
     → ((s p : ℕ) → x ≡ refused s p → y ≡ refused s p) → r ≡ refusalOf y
 declined (refused s p) y r e h f = e ∙ sym (ap refusalOf (f s p refl))
 declined (accepted x) y r e h f = absurd (h (ap (λ (t : Refusal). t .refusal) e))
-
-abbrev answerOf : Reading Netlist → ReadAnswer
-answerOf x = elim x [ refused s p ↦ readRefused s p | accepted net ↦ readAccepted net ]
 
 module _ (b : List ℕ) where
   pub head-declines : (headRefusal b ≡ 0 → ⊥) → readNetlist b ≡ refused (headRefusal b) 0

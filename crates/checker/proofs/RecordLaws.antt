@@ -21,8 +21,8 @@ use Rattle.checker.specs.Read.{Reading, refused, accepted, readRecords, 
 use Rattle.checker.specs.Exact.{HeadLimits, OperationLimits, OutputLimits, TotalsRight}
 use Rattle.checker.specs.Tests.{Whole, Expected, recordTests, firstRecords}
 use Rattle.checker.specs.Tables.{operationsBefore, refusalOf}
-use Rattle.checker.proofs.FirstRecords.{length-first}
 use Rattle.checker.proofs.TestLaws.{RefusedBy}
+use Rattle.checker.proofs.FirstRecords.{length-first}
 use Rattle.checker.proofs.Conditions.{and-says, same-says, at-most-says, head-says, operation-says, output-says, totals-says}
 use Rattle.checker.proofs.ReadTests.{record-refused}
 

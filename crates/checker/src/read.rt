@@ -15,15 +15,15 @@ ghost use Rattle.layout.specs.Records.{operationOf, outputOf, totalsOf};
 ghost use Rattle.checker.specs.Tables.{filled, operationsBefore, FormsHeld, DepthsHeld, OperationRead, OperationsRead, OutputsRead, HeadRead, NetlistHeld, RecordsRead};
 
 // A refusal and its place; 0 at place 0 is none.
-pub struct Refusal {
-    pub refusal: u8,
-    pub place: usize,
+pub(crate) struct Refusal {
+    pub(crate) refusal: u8,
+    pub(crate) place: usize,
 }
 
 // ---- one record
 
 // The record due at a place: 7, or 8 where its kind or length is not the expected one, else 0.
-pub fn record_refusal(bytes: &[u8], place: usize, kind: u16, size: usize) -> u8
+fn record_refusal(bytes: &[u8], place: usize, kind: u16, size: usize) -> u8
     ensures { λ r. ⌜ r ≡ recordRefusal (now (bytes .entry)) place kind size ⌝ }
 {
     let step = layout::step::step_numbers(bytes, place);
@@ -39,7 +39,7 @@ pub fn record_refusal(bytes: &[u8], place: usize, kind: u16, size: usize) -> u8
     0
 }
 
-pub fn head_at(bytes: &[u8]) -> Head
+fn head_at(bytes: &[u8]) -> Head
     requires { ⌜ recordRefusal (now bytes) 0 2 8 ≡ 0 ⌝ }
     ensures { λ r. ⌜ r ≡ headAt (now (bytes .entry)) ⌝ }
 {
@@ -47,7 +47,7 @@ pub fn head_at(bytes: &[u8]) -> Head
     layout::read::read_head(payload)
 }
 
-pub fn operation_at(bytes: &[u8], place: usize) -> Operation
+pub(crate) fn operation_at(bytes: &[u8], place: usize) -> Operation
     requires { ⌜ recordRefusal (now bytes) place 3 12 ≡ 0 ⌝ }
     ensures { λ r. ⌜ r ≡ operationOf (payloadAt (now (bytes .entry)) place) ⌝ }
 {
@@ -55,7 +55,7 @@ pub fn operation_at(bytes: &[u8], place: usize) -> Operation
     layout::read::read_operation(payload)
 }
 
-pub fn output_at(bytes: &[u8], place: usize) -> Output
+pub(crate) fn output_at(bytes: &[u8], place: usize) -> Output
     requires { ⌜ recordRefusal (now bytes) place 4 9 ≡ 0 ⌝ }
     ensures { λ r. ⌜ r ≡ outputOf (payloadAt (now (bytes .entry)) place) ⌝ }
 {
@@ -63,7 +63,7 @@ pub fn output_at(bytes: &[u8], place: usize) -> Output
     layout::read::read_output(payload)
 }
 
-pub fn totals_at(bytes: &[u8], place: usize) -> Totals
+fn totals_at(bytes: &[u8], place: usize) -> Totals
     requires { ⌜ recordRefusal (now bytes) place 5 8 ≡ 0 ⌝ }
     ensures { λ r. ⌜ r ≡ totalsOf (payloadAt (now (bytes .entry)) place) ⌝ }
 {
@@ -373,7 +373,7 @@ fn refused(refusal: u8, place: usize) -> ReadAnswer
 }
 
 // Read, and where it accepts, the coefficients of every entry in the first table.
-pub fn netlist(bytes: &[u8], forms: &mut [i64; 4096], depths: &mut [u16; 512]) -> ReadAnswer
+pub(crate) fn netlist(bytes: &[u8], forms: &mut [i64; 4096], depths: &mut [u16; 512]) -> ReadAnswer
     requires { ⌜ (length (now forms) ≡ 4096) × (now depths ≡ filled 512 0) ⌝ }
     ensures { λ r. ⌜ (r ≡ readAnswer (now (bytes .entry))) × (r .refusal ≡ 0 → NetlistHeld (now (bytes .entry)) (now (forms .exit))) ⌝ }
 {
@@ -399,13 +399,13 @@ pub fn netlist(bytes: &[u8], forms: &mut [i64; 4096], depths: &mut [u16; 512]) -
 }
 
 // A table for coefficients, and one for depths.
-pub fn blank_forms() -> [i64; 4096]
+pub(crate) fn blank_forms() -> [i64; 4096]
     ensures { λ r. ⌜ r ≡ filled 4096 (pos 0) ⌝ }
 {
     [0; 4096]
 }
 
-pub fn blank_depths() -> [u16; 512]
+pub(crate) fn blank_depths() -> [u16; 512]
     ensures { λ r. ⌜ r ≡ filled 512 0 ⌝ }
 {
     [0; 512]
