@@ -3,8 +3,8 @@ use checker::ReadAnswer;
 use checker::RunAnswer;
 use compiler::CompileAnswer;
 ghost use mathlib.Core.Path.{_≡_};
-ghost use mathlib.Core.Bool.{_&&_};
-ghost use lib.Dec.{eqb};
+ghost use Rattle.compiler.specs.Compile.{compileBuffer};
+ghost use Rattle.bank.specs.Claim.{Given, Claim, answersOf, outputsAfter};
 
 // What the three calls return, each lent what the one before it wrote.
 pub struct Answers {
@@ -13,9 +13,17 @@ pub struct Answers {
     pub run: RunAnswer,
 }
 
-// Whether all three calls accept.
-pub fn all_accept(compile: u8, read: u8, run: u8) -> bool
-    ensures { λ r. ⌜ r ≡ (eqb compile 0 && (eqb read 0 && eqb run 0)) ⌝ }
+// Compile, then read and run on the part that compile wrote.
+pub fn compile_read_run(matrix: &[u8], buffer: &mut [u8], samples: &[i16], outputs: &mut [i64]) -> Answers
+    ensures { λ r. ⌜ r ≡ answersOf (now (matrix .entry)) (now (buffer .entry)) (now (samples .entry)) (now (outputs .entry)) ⌝ }
+    ensures { λ r. ⌜ now (buffer .exit) ≡ compileBuffer (now (matrix .entry)) (now (buffer .entry)) ⌝ }
+    ensures { λ r. ⌜ now (outputs .exit) ≡ outputsAfter (now (matrix .entry)) (now (buffer .entry)) (now (samples .entry)) (now (outputs .entry)) ⌝ }
+    ensures { λ r. ⌜ (Given (now (matrix .entry)) (now (buffer .entry)) (now (samples .entry)) (now (outputs .entry)) → Claim (now (matrix .entry)) (now (buffer .exit)) (now (samples .entry)) (now (outputs .exit)) r) ⌝ }
 {
-    compile == 0 && (read == 0 && run == 0)
+    let compile = compiler::compile(matrix, buffer);
+    let written = compile.written;
+    let bytes = &buffer[..written];
+    let read = checker::read::read(bytes);
+    let run = checker::run::run(bytes, samples, outputs);
+    Answers { compile, read, run }
 }
