@@ -13,6 +13,8 @@ use Rattle.term.specs.declared.Term.{Term}
 use Rattle.elimination.specs.Rows.{Row, plainCount}
 use Rattle.eliminate.specs.State.{noTerm}
 use Rattle.compiler.specs.Chains.{signOf, chainFrom, chain, chains, rowOutput, rowOutputs}
+use Rattle.compiler.proofs.Sums.{summed-length, summed-rows-outputs}
+use Rattle.compiler.proofs.Chains.{chain-summed, chains-summed}
 
 -- ---- one element more
 
@@ -87,15 +89,8 @@ unfolding chain
 chain-none next [] out h = sym (append-nil out)
 chain-none next (t ∷ r) out h = absurd (omega arith)
 
-length-chain-from : (symbol shift : ℕ) (turned : Bool) (next : ℕ) (r : Row) → length (chainFrom symbol shift turned next r) ≡ length r
-unfolding chainFrom
-length-chain-from symbol shift turned next [] = refl
-length-chain-from symbol shift turned next (t ∷ r) = ap suc (length-chain-from next 0 turned (suc next) r)
-
 pub length-chain : (next : ℕ) (r : Row) → length (chain next r) ≡ pred (length r)
-unfolding chain
-length-chain next [] = refl
-length-chain next (t ∷ r) = length-chain-from (t .symbol) (t .exponent) (t .negative) next r
+length-chain next r = summed-length (chain-summed next r)
 
 -- ---- all rows' chains
 
@@ -173,9 +168,7 @@ pub output-more-is : (next sign count : ℕ) (t : Term) (r : Row) → 2 ≤ leng
 output-more-is next sign count t r h k e a = rw (a, k, e) (output-more next r h)
 
 pub outputs-count : (next : ℕ) (rows : List Row) → length (rowOutputs next rows) ≡ length rows
-unfolding rowOutputs
-outputs-count next [] = refl
-outputs-count next (r ∷ rows) = ap suc (outputs-count (next + length (chain next r)) rows)
+outputs-count next rows = summed-rows-outputs (chains-summed next rows)
 
 module _ (rows : List Row) (out : List Output) (i : ℕ) where
   outputs-cons : (next : ℕ) (r : Row) (rows : List Row) → rowOutputs next (r ∷ rows) ≡ rowOutput next r ∷ rowOutputs (next + length (chain next r)) rows

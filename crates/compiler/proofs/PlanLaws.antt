@@ -6,7 +6,8 @@ use mathlib.Core.List.{List, [], _∷_, _++_, map}
 use native.Mathlib.Omega.{arith}
 use native.Mathlib.Nat.{zero-add}
 use lib.IntN.{ℤ}
-use lib.ListN.{length, getD, drop, length-map}
+use lib.ListN.{length, getD, take, drop, length-map}
+use lib.Seq.{length-take-le, split-at}
 use Rattle.layout.specs.declared.Operation.{Operation}
 use Rattle.layout.specs.declared.Output.{Output}
 use Rattle.layout.specs.Matrix.{matrixRefusal, matrix, rows, columns}
@@ -30,7 +31,7 @@ use Rattle.compiler.specs.Tables.{Writable, EarlierOutputs, recordedNetl
 use Rattle.compiler.proofs.Limits.{rows-columns, accepted-within}
 use Rattle.compiler.proofs.Counts.{Stepped, length-operations, length-outputs, operations-fewer, netlist-length}
 use Rattle.compiler.proofs.Operands.{OperationInRange, EachOperation, OperationsInRange, operations-in-range, OutputInRange, EachOutput, OutputsInRange, outputs-in-range}
-use Rattle.compiler.proofs.Netlist.{Narrow}
+use Rattle.compiler.proofs.Netlist.{Narrow, operation-at, output-at}
 use Rattle.compiler.proofs.Narrow.{narrow}
 use Rattle.compiler.proofs.Compiled.{answer-refused, buffer-refused}
 use Rattle.compiler.proofs.ChainLaws.{outputs-count}
@@ -38,17 +39,12 @@ use Rattle.compiler.proofs.ChainLaws.{outputs-count}
 -- ---- from each one to the one at an index
 
 operation-index : (P : ℕ → Operation → Type 0) (symbol : ℕ) (os : List Operation) → EachOperation P symbol os → (k : ℕ) → k < length os → P (symbol + k) (getD os k noOperation)
-operation-index P symbol [] h k l = absurd (omega arith)
-operation-index P symbol (o ∷ os) h zero l = subst (λ (s : ℕ). P s o) (omega arith) (h .0)
-operation-index P symbol (o ∷ os) h (suc k) l = subst (λ (s : ℕ). P s (getD os k noOperation)) (next symbol k) (operation-index P (suc symbol) os (h .1) k (omega arith))
-  where
-    next : (symbol k : ℕ) → suc symbol + k ≡ symbol + suc k
-    next symbol k = omega arith
+operation-index P symbol os h k l =
+    subst (λ (i : ℕ). P (symbol + i) (getD os k noOperation)) (length-take-le k os (omega arith))
+    (operation-at P symbol os (take k os) (drop (suc k) os) (getD os k noOperation) h (split-at os k noOperation l))
 
 output-index : (P : Output → Type 0) (os : List Output) → EachOutput P os → (i : ℕ) → i < length os → P (getD os i noOutput)
-output-index P [] h i l = absurd (omega arith)
-output-index P (o ∷ os) h zero l = h .0
-output-index P (o ∷ os) h (suc i) l = output-index P os (h .1) i (omega arith)
+output-index P os h i l = output-at P os (take i os) (drop (suc i) os) (getD os i noOutput) h (split-at os i noOutput l)
 
 length-matrix-rows : (p : ℕ) (m : List (List ℤ)) → length (matrixRows p m) ≡ length m
 unfolding matrixRows
