@@ -14,7 +14,7 @@ use lib.Signed.{_≤ℤ_, _<ℤ_, mag, ltZ, leZ, ltZ-no, nonNeg, shrZ, mag-shr}
 use lib.Pow.{pow-pos}
 use mir.Syntax.{Width}
 use mir.Val.{SFits, Fits, toZ, ofZ, hbits, bits}
-use mir.ValLaws.{toZ-ofZ, ofZ-toZ, toZ-fits, half-full, pow-bits}
+use mir.ValLaws.{toZ-ofZ, half-full, pow-bits}
 use Rattle.integers.proofs.Size.{fits-abs, abs-neg}
 
 pub record Held (w : Width) (n : ℕ) (z : ℤ) : Type 0 where
@@ -33,10 +33,6 @@ held f = record { bits = refl; fits = f }
 pub held-nat : (w : Width) (n : ℕ) → SFits w (pos n) → Held w n (pos n)
 held-nat w n f = record { bits = refl; fits = f }
 
--- a local that an invariant describes by its reading
-pub held-at : {w : Width} {n : ℕ} → Fits w n → Held w n (toZ w n)
-held-at {w} {n} f = record { bits = sym (ofZ-toZ w n f); fits = toZ-fits w n f }
-
 -- another name for the same integer
 pub held-is : {w : Width} {n : ℕ} {z y : ℤ} → Held w n z → z ≡ y → Held w n y
 held-is {w} {n} h e = subst (Held w n) e h
@@ -49,7 +45,7 @@ returned h e = is h ∙ e
 pub call-result : (w : Width) {z y : ℤ} → mag z < 2 ^ hbits w → z ≡ y → toZ w (ofZ w z) ≡ y
 call-result w h e = returned (held (record { sfits = h })) e
 
--- ---- sums, differences, products, comparisons
+-- ---- sums, differences, comparisons (`when-le` and `when-gt` serve request A13's level)
 
 not-le : (x y : ℤ) → leZ x y ≡ false → y <ℤ x
 not-le (pos a) (pos b) t = record { lt = lt→ltb b a (leb-false a b t) }
@@ -64,17 +60,11 @@ module _ {w : Width} {a b : ℕ} {x y : ℤ} (ha : Held w a x) (hb : Held w b y)
   pub need-- : SFits w (x -ℤ y) → SFits w (toZ w a -ℤ toZ w b)
   need-- f = rw (is ha, is hb) f
 
-  pub need-* : SFits w (x *ℤ y) → SFits w (toZ w a *ℤ toZ w b)
-  need-* f = rw (is ha, is hb) f
-
   pub held-+ : SFits w (x +ℤ y) → Held w (ofZ w (toZ w a +ℤ toZ w b)) (x +ℤ y)
   held-+ f = rw (is ha, is hb) (held f)
 
   pub held-- : SFits w (x -ℤ y) → Held w (ofZ w (toZ w a -ℤ toZ w b)) (x -ℤ y)
   held-- f = rw (is ha, is hb) (held f)
-
-  pub held-* : SFits w (x *ℤ y) → Held w (ofZ w (toZ w a *ℤ toZ w b)) (x *ℤ y)
-  held-* f = rw (is ha, is hb) (held f)
 
   -- what a test says
   pub when-lt : ltZ (toZ w a) (toZ w b) ≡ true → x <ℤ y
@@ -160,4 +150,4 @@ pub held-shr : {w : Width} {a : ℕ} {x : ℤ} (m : ℕ) → Held w a x → Held
 held-shr {w} {a} {x} m h = rw (is h) (held (record { sfits = omega (arith, h .fits .sfits, mag-shr x m) }))
 
 -- what `search` is handed at a signed need
-pub ruleset helds = (need-+, need--, need-*, need-neg, need-cast, held, held-nat, held-+, held--, held-*, held-neg, held-cast, held-shl, held-shr)
+pub ruleset helds = (need-+, need--, need-neg, need-cast, held, held-nat, held-+, held--, held-neg, held-cast, held-shl, held-shr)
