@@ -14,7 +14,12 @@ pub struct Answers {
 }
 
 // Compile, then read and run on the part that compile wrote.
-pub fn compile_read_run(matrix: &[u8], buffer: &mut [u8], samples: &[i16], outputs: &mut [i64]) -> Answers
+pub fn compile_read_run(
+    matrix: &[u8],
+    buffer: &mut [u8],
+    samples: &[i16],
+    outputs: &mut [i64],
+) -> Answers
     ensures { λ r. ⌜ r ≡ answersOf (now (matrix .entry)) (now (buffer .entry)) (now (samples .entry)) (now (outputs .entry)) ⌝ }
     ensures { λ r. ⌜ now (buffer .exit) ≡ compileBuffer (now (matrix .entry)) (now (buffer .entry)) ⌝ }
     ensures { λ r. ⌜ now (outputs .exit) ≡ outputsAfter (now (matrix .entry)) (now (buffer .entry)) (now (samples .entry)) (now (outputs .entry)) ⌝ }
