@@ -1,0 +1,3 @@
+-- Laws of the text of list-bank.
+pub mod Texts
+pub mod Marked

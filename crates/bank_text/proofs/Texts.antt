@@ -1,0 +1,102 @@
+-- The text of list-bank from what compile answers and leaves in a buffer of 6,136 bytes.
+-- Assumes nothing.
+use Prim.Native.Nat.{ℕ, zero, suc, _+_, _*_, _≤_, _<_}
+use mathlib.Core.Path.{_≡_, refl, sym, ap, ap₂, _∙_, subst}
+use mathlib.Core.List.{List, [], _++_}
+use borrow.Author.Tests.{lt-ltb, le-ltb}
+use native.Mathlib.Omega.{arith}
+use lib.ListN.{length, getD, drop, length-append}
+use Rattle.layout.specs.Matrix.{matrixRefusal, rows, columns}
+use Rattle.layout.proofs.LittleEndian.{AreBytes}
+use Rattle.layout.proofs.MatrixRefusal.{AcceptedMatrix, accepted-matrix}
+use Rattle.compiler.specs.declared.CompileAnswer.{CompileAnswer}
+use Rattle.compiler.specs.Compile.{netlistOf, compileAnswer, compileBuffer, compileRefused, compileAccepted, compiledBytes, compiledNetlist}
+use Rattle.compiler.proofs.Compiled.{answer-refused, enough-room, buffer-accepted, compiled-answer, compiled-is, compiled-length, compiled-operations}
+use Rattle.listing.specs.declared.Counts.{Counts}
+use Rattle.listing.specs.Listing.{listing, refusedLine}
+use Rattle.listing.specs.Records.{listingOf}
+use Rattle.listing.proofs.Records.{listing-of-netlist}
+use Rattle.bank_text.specs.BankText.{countsOf, bankText, bankTextIn}
+
+-- the counts that an answer and the matrix's m and n give
+abbrev pub countsFrom : List ℕ → CompileAnswer → Counts
+countsFrom bytes a =
+    record {
+      inputs = getD bytes 5 0;
+      outputs = getD bytes 4 0;
+      operations = a .operations;
+      plain = a .plain;
+      divisors = a .divisors;
+      replacements = a .replacements;
+      depth = a .depth;
+    }
+
+refused-text : (bytes : List ℕ) (r : ℕ) → matrixRefusal bytes ≡ suc r → refusedLine (suc r) 0 ≡ bankText bytes
+unfolding bankText
+refused-text bytes r e = sym (rw (e, bankText))
+
+accepted-text : (bytes : List ℕ) → matrixRefusal bytes ≡ 0 → listing (countsOf bytes) (compiledNetlist bytes .operations) (compiledNetlist bytes .outputs) ≡ bankText bytes
+unfolding bankText
+accepted-text bytes e = sym (rw (e, bankText))
+
+module _ (bytes : List ℕ) (all : AreBytes bytes) (old after : List ℕ) (answer : CompileAnswer)
+    (room : 6136 ≡ length old) (answered : answer ≡ compileAnswer bytes (length old)) (left : after ≡ compileBuffer bytes old) where
+  takes : matrixRefusal bytes ≡ 0 → answer ≡ compileAccepted bytes
+  takes e = answered ∙ enough-room bytes all (length old) e (omega arith)
+
+  -- compile refuses exactly where the matrix record is refused
+  pub text-refused : (answer .refusal ≡ 0 → ⊥) → refusedLine (answer .refusal) (answer .place) ≡ bankText bytes
+  text-refused no-zero = go (matrixRefusal bytes) refl
+    where
+      go : (r : ℕ) → matrixRefusal bytes ≡ r → refusedLine (answer .refusal) (answer .place) ≡ bankText bytes
+      go zero e = absurd (no-zero (ap (λ (a : CompileAnswer). a .refusal) (takes e)))
+      go (suc r) e =
+          ap (λ (a : CompileAnswer). refusedLine (a .refusal) (a .place)) (answered ∙ answer-refused bytes r (length old) e)
+          ∙ refused-text bytes r e
+
+  pub not-refused : answer .refusal ≡ 0 → matrixRefusal bytes ≡ 0
+  not-refused is-zero = go (matrixRefusal bytes) refl
+    where
+      go : (r : ℕ) → matrixRefusal bytes ≡ r → matrixRefusal bytes ≡ 0
+      go zero e = e
+      go (suc r) e = absurd (let z : suc r ≡ 0 = sym (ap (λ (a : CompileAnswer). a .refusal) (answered ∙ answer-refused bytes r (length old) e)) ∙ is-zero in omega arith)
+
+  module _ (is-zero : answer .refusal ≡ 0) where
+    taken : matrixRefusal bytes ≡ 0
+    taken = not-refused is-zero
+
+    pub limits : AcceptedMatrix bytes
+    limits = accepted-matrix bytes taken
+
+    pub few : answer .operations ≤ 504
+    few = subst (λ (a : CompileAnswer). a .operations ≤ 504) (sym (takes taken)) (compiled-operations bytes all taken)
+
+    behind : List ℕ
+    behind = drop (length (compiledBytes bytes)) old
+
+    written : after ≡ compiledBytes bytes ++ behind
+    unfolding behind
+    written = left ∙ buffer-accepted bytes old taken (omega (arith, compiled-length bytes all taken))
+
+    -- the head, the operations and the outputs stand in the buffer
+    pub long : 8 + 12 * answer .operations + 9 * rows bytes ≤ length after
+    long = omega (
+      arith,
+      ap length written ∙ length-append (compiledBytes bytes) behind,
+      compiled-answer bytes all taken .written,
+      ap (λ (a : CompileAnswer). a .operations) (takes taken),
+    )
+
+    pub text-accepted : listingOf (countsFrom bytes answer) after ≡ bankText bytes
+    unfolding netlistOf
+    text-accepted =
+        ap₂ (λ (a : CompileAnswer) (b : List ℕ). listingOf (countsFrom bytes a) b) (takes taken) written
+        ∙ listing-of-netlist (compiledNetlist bytes) (countsOf bytes) behind (sym (compiled-is bytes all taken .count)) (sym (compiled-is bytes all taken .one-per-row))
+        ∙ accepted-text bytes taken
+
+-- the lent text is too short, or long enough
+pub text-short : (room : ℕ) (bytes : List ℕ) → room < 24598 → [] ≡ bankTextIn room bytes
+text-short room bytes h = sym (rw (lt-ltb room 24598 h, bankTextIn))
+
+pub text-fits : (room : ℕ) (bytes : List ℕ) → 24598 ≤ room → bankText bytes ≡ bankTextIn room bytes
+text-fits room bytes h = sym (rw (le-ltb room 24598 h, bankTextIn))

@@ -1,0 +1,116 @@
+-- `bank_text::write_text` meets its contract. Assumes nothing.
+use Prim.Native.Nat.{ℕ, _+_, _*_, _≤_}
+use mathlib.Core.Path.{_≡_}
+use mathlib.Core.List.{List}
+use native.Mathlib.Omega.{arith}
+use lib.ListN.{length}
+use borrow.Author.Needs.{needs}
+use Rattle.layout.specs.Matrix.{rows}
+use Rattle.layout.proofs.LittleEndian.{AreBytes}
+use Rattle.layout.proofs.MatrixRefusal.{AcceptedMatrix}
+use Rattle.listing.specs.Listing.{refusedLine}
+use Rattle.listing.specs.Records.{listingOf}
+use Rattle.listing.proofs.Wrote.{wrote-as}
+use Rattle.bank_text.specs.BankText.{bankText}
+use Rattle.bank_text.proofs.Texts.{countsFrom, text-refused, text-accepted, limits, few, long}
+use Rattle.bank_text.proofs.write_text.Statement.{statement}
+use Rattle.bank_text.proofs.write_text.Tie as tie
+
+-- what is known once compile has answered
+module _ (c : tie.After-compile) where
+  abbrev known : tie.After-shared-slice-known
+  known = c .before .before .before .before
+
+  abbrev bytes : List ℕ
+  bytes = known .before .args .matrix .now
+
+  all : AreBytes bytes
+  all i = omega (arith, known .shared-slice-known .given i)
+
+  refusal-text : (c .compile .result .refusal ≡ 0 → ⊥) → refusedLine (c .compile .result .refusal) (c .compile .result .place) ≡ bankText bytes
+  refusal-text = text-refused bytes all _ _ (c .compile .result) (c .before .before .no-netlist .ensures) (c .compile .ensures .0) (c .compile .ensures .1)
+
+  module _ (e : c .compile .result .refusal ≡ 0) where
+    netlist-text : listingOf (countsFrom bytes (c .compile .result)) (c .compile .last .1 .0) ≡ bankText bytes
+    netlist-text = text-accepted bytes all _ _ (c .compile .result) (c .before .before .no-netlist .ensures) (c .compile .ensures .0) (c .compile .ensures .1) e
+
+    within : AcceptedMatrix bytes
+    within = limits bytes all _ _ (c .compile .result) (c .before .before .no-netlist .ensures) (c .compile .ensures .0) (c .compile .ensures .1) e
+
+    enough : 8 + 12 * c .compile .result .operations + 9 * rows bytes ≤ length (c .compile .last .1 .0)
+    enough = long bytes all _ _ (c .compile .result) (c .before .before .no-netlist .ensures) (c .compile .ensures .0) (c .compile .ensures .1) e
+
+    operations : c .compile .result .operations ≤ 504
+    operations = few bytes all _ _ (c .compile .result) (c .before .before .no-netlist .ensures) (c .compile .ensures .0) (c .compile .ensures .1) e
+
+no-netlist-requires : tie.Need-no-netlist-requires
+no-netlist-requires c κs = search needs
+
+slice-aggregate-compile : tie.Need-slice-aggregate-compile
+slice-aggregate-compile c = search needs
+
+compile-requires : tie.Need-compile-requires
+compile-requires c κs = search needs
+
+write-refused-requires : tie.Need-write-refused-requires
+write-refused-requires c κs = search needs
+
+same-length : tie.Need-same-length
+same-length c = search needs
+
+returns : tie.Need-returns
+returns c =
+    let w = c .before .before .write-refused .ensures in
+    (wrote-as (refusal-text (c .before .before .before .before .before .before .before) (c .before .before .before .before .if1 .taken)) (w .0), omega (arith, w .1))
+
+shared-slice-read-t13 : tie.Need-shared-slice-read-t13
+shared-slice-read-t13 c = omega (arith, within (c .before .before .before .before) (c .before .if1 .left) .enough)
+
+cast-t14 : tie.Need-cast-t14
+cast-t14 c = omega (arith, c .shared-slice-known2 .given 5)
+
+shared-slice-read-t16 : tie.Need-shared-slice-read-t16
+shared-slice-read-t16 c = omega (arith, within (c .before .before .before .before .before) (c .before .before .if1 .left) .enough)
+
+cast-t17 : tie.Need-cast-t17
+cast-t17 c = omega (arith, c .shared-slice-known3 .given 4)
+
+slice-aggregate-write-listing : tie.Need-slice-aggregate-write-listing
+slice-aggregate-write-listing c = search needs
+
+write-listing-requires : tie.Need-write-listing-requires
+write-listing-requires c κs =
+    let k = c .before .before .before .before .before .before .before in
+    let e = c .before .before .before .before .if1 .left in
+    let l = within k e in
+    let f = operations k e in
+    (omega (arith, l .columns-most, f), (enough k e, omega (arith, l .rows-most, f)))
+
+same-length-2 : tie.Need-same-length-2
+same-length-2 c = search needs
+
+returns-2 : tie.Need-returns-2
+returns-2 c =
+    let k = c .before .before .before .before .before .before .before .before .before .before in
+    let e = c .before .before .before .before .before .before .before .if1 .left in
+    let w = c .before .before .write-listing .ensures in
+    (wrote-as (netlist-text k e) (w .0), omega (arith, w .1, within k e .rows-most, operations k e))
+
+pub write-text-spec : {M : Type 1} → statement M
+write-text-spec =
+    tie.close
+    (tie.spec
+    no-netlist-requires
+    slice-aggregate-compile
+    compile-requires
+    write-refused-requires
+    same-length
+    returns
+    shared-slice-read-t13
+    cast-t14
+    shared-slice-read-t16
+    cast-t17
+    slice-aggregate-write-listing
+    write-listing-requires
+    same-length-2
+    returns-2)

@@ -1,0 +1,35 @@
+-- Document 01, "Marked banks": what the program list-bank prints for a matrix record.
+-- Assumes nothing.
+use Prim.Native.Nat.{ℕ, zero, suc}
+use mathlib.Core.Bool.{true, false}
+use mathlib.Core.List.{List, []}
+use lib.Dec.{ltb}
+use Rattle.layout.specs.Matrix.{matrixRefusal, rows, columns}
+use Rattle.compiler.specs.Compile.{compileAccepted, compiledNetlist}
+use Rattle.listing.specs.declared.Counts.{Counts}
+use Rattle.listing.specs.Listing.{listing, refusedLine}
+
+-- the first line's numbers: the matrix's, and those that compile reports
+abbrev pub countsOf : List ℕ → Counts
+countsOf bytes =
+    record {
+      inputs = columns bytes;
+      outputs = rows bytes;
+      operations = compileAccepted bytes .operations;
+      plain = compileAccepted bytes .plain;
+      divisors = compileAccepted bytes .divisors;
+      replacements = compileAccepted bytes .replacements;
+      depth = compileAccepted bytes .depth;
+    }
+
+-- the netlist's text, or the refusal's; compile has room for every netlist, so it is one of 1 to 5
+unfoldable pub bankText : List ℕ → List ℕ
+bankText bytes =
+    elim (matrixRefusal bytes) [
+      | suc r ↦ refusedLine (suc r) 0
+      | zero ↦ listing (countsOf bytes) (compiledNetlist bytes .operations) (compiledNetlist bytes .outputs)
+    ]
+
+-- nothing where the lent text is shorter than the longest text
+abbrev pub bankTextIn : ℕ → List ℕ → List ℕ
+bankTextIn length bytes = elim (ltb length 24598) [ true ↦ [] | false ↦ bankText bytes ]

@@ -1,0 +1,2 @@
+pub mod BankText
+pub mod Marked
