@@ -31,7 +31,7 @@ array-write-digits : tie.Need-array-write-digits Inv-loop μ-loop
 array-write-digits c = omega arith
 
 sub-start : tie.Need-sub-start Inv-loop μ-loop
-sub-start c = let l = c .before .loop in omega (arith, length-large (l .rest) (c .loop-test .taken), some-digit (l .rest / 10))
+sub-start c = let l = c .before .loop in omega (arith, length-large (l .rest) (omega arith), some-digit (l .rest / 10))
 
 loop-less : tie.Need-loop-less Inv-loop μ-loop
 loop-less c = omega arith
@@ -41,9 +41,9 @@ loop-again c =
     let l = c .before .loop in
     let before : suc (l .start - 1) ≡ l .start = omega (arith, sub-start c) in (
       ap (λ (k : ℕ). number (l .rest / 10) ++ drop k (set (l .digits) (l .start) (48 + l .rest % 10))) before
-          ∙ digit-more (l .rest) (l .start) (l .digits) (c .loop-test .taken) (omega arith)
+          ∙ digit-more (l .rest) (l .start) (l .digits) (omega arith) (omega arith)
           ∙ l .inv .0,
-      omega (arith, length-large (l .rest) (c .loop-test .taken)),
+      omega (arith, length-large (l .rest) (omega arith)),
       omega arith,
       length-set (l .digits) (l .start) (48 + l .rest % 10) ∙ l .inv .3,
     )
