@@ -4,6 +4,7 @@ use layout::Head;
 use layout::Operation;
 use layout::Output;
 use layout::Totals;
+use term::Term;
 ghost use mathlib.Core.Path.{_≡_};
 ghost use Prim.Native.Nat.{_+_, _*_, _≤_, _<_, max};
 ghost use lib.IntN.{pos};
@@ -101,10 +102,10 @@ fn operation_in_range(o: Operation, symbol: usize) -> bool
     if o.sign > 1 {
         return false;
     }
-    if o.sa > 15 {
+    if o.sa > Term::MAX_EXPONENT {
         return false;
     }
-    if o.sb > 15 {
+    if o.sb > Term::MAX_EXPONENT {
         return false;
     }
     if o.a as usize >= symbol {
@@ -123,7 +124,7 @@ fn output_in_range(o: Output, symbols: usize) -> bool
     if o.sign > 2 {
         return false;
     }
-    if o.shift > 15 {
+    if o.shift > Term::MAX_EXPONENT {
         return false;
     }
     if o.symbol as usize >= symbols {
