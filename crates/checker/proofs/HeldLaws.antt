@@ -29,7 +29,7 @@ pub length-filled : {A : Type 0} (k : ℕ) (x : A) → length (filled k x) ≡ k
 unfolding filled
 length-filled k x = length-replicate k x
 
-take-replicate : {A : Type 0} (n k : ℕ) (x : A) → n ≤ k → take n (replicate k x) ≡ replicate n x
+pub take-replicate : {A : Type 0} (n k : ℕ) (x : A) → n ≤ k → take n (replicate k x) ≡ replicate n x
 take-replicate zero k x l = refl
 take-replicate (suc n) zero x l = absurd (omega arith)
 take-replicate (suc n) (suc k) x l = ap (λ r. x ∷ r) (take-replicate n k x (omega arith))
