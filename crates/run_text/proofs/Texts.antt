@@ -2,11 +2,10 @@
 -- Assumes nothing.
 use Prim.Native.Nat.{ℕ, zero, suc, _≤_, _<_}
 use mathlib.Core.Path.{_≡_, refl, sym, ap, _∙_}
-use mathlib.Core.List.{List, []}
+use mathlib.Core.List.{List}
 use native.Mathlib.Omega.{arith}
 use lib.IntN.{ℤ, pos}
 use lib.ListN.{length, replicate}
-use borrow.Author.Tests.{lt-ltb, le-ltb}
 use Rattle.layout.specs.Records.{Netlist}
 use Rattle.layout.proofs.LittleEndian.{AreBytes}
 use Rattle.checker.specs.declared.RunAnswer.{RunAnswer}
@@ -15,7 +14,7 @@ use Rattle.checker.specs.Run.{runAnswer, runOutputs}
 use Rattle.checker.proofs.ReadAccepts.{reads-netlist}
 use Rattle.samples.specs.Samples.{samplesOf}
 use Rattle.listing.specs.Listing.{refusedLine}
-use Rattle.run_text.specs.RunText.{outputLines, rowsRead, runText, runTextIn}
+use Rattle.run_text.specs.RunText.{outputLines, rowsRead, runText}
 
 -- read says that there are at most 8 rows
 pub rows-few : (b : List ℕ) → AreBytes b → rowsRead b ≤ 8
@@ -54,10 +53,3 @@ module _ (netlist samples : List ℕ) where
 
     pub text-accepted : answer .refusal ≡ 0 → outputLines outputs ≡ runText netlist samples
     text-accepted e = accepted-text (sym (ap (λ (a : RunAnswer). a .refusal) is) ∙ e)
-
--- the lent text is too short, or long enough
-pub text-short : (room : ℕ) (netlist samples : List ℕ) → room < 168 → [] ≡ runTextIn room netlist samples
-text-short room netlist samples h = sym (rw (lt-ltb room 168 h, runTextIn))
-
-pub text-fits : (room : ℕ) (netlist samples : List ℕ) → 168 ≤ room → runText netlist samples ≡ runTextIn room netlist samples
-text-fits room netlist samples h = sym (rw (le-ltb room 168 h, runTextIn))

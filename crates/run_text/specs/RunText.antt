@@ -1,9 +1,7 @@
 -- What the program run-bank prints for a netlist and a vector of samples, both given as bytes. Every line ends in a line feed.
 -- Assumes nothing.
 use Prim.Native.Nat.{ℕ, zero, suc}
-use mathlib.Core.Bool.{true, false}
-use mathlib.Core.List.{List, [], _++_, flatMap}
-use lib.Dec.{ltb}
+use mathlib.Core.List.{List, _++_, flatMap}
 use lib.IntN.{ℤ, pos, negsuc}
 use lib.ListN.{length, replicate}
 use Rattle.checker.specs.Read.{readAnswer}
@@ -11,6 +9,7 @@ use Rattle.checker.specs.Run.{runAnswer, runOutputs}
 use Rattle.samples.specs.Samples.{samplesOf}
 use Rattle.listing.specs.Decimal.{number}
 use Rattle.listing.specs.Listing.{ascii, refusedLine}
+use Rattle.listing.specs.Wrote.{textIn}
 
 -- a whole number in decimal; −1 − k is negative, and its distance from 0 is k + 1
 abbrev pub signedNumber : ℤ → List ℕ
@@ -40,4 +39,4 @@ runText netlist samples =
 
 -- nothing where the lent text is shorter than the longest text
 abbrev pub runTextIn : ℕ → List ℕ → List ℕ → List ℕ
-runTextIn length netlist samples = elim (ltb length 168) [ true ↦ [] | false ↦ runText netlist samples ]
+runTextIn lent netlist samples = textIn 168 lent (runText netlist samples)
