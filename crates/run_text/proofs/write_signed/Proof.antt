@@ -1,6 +1,6 @@
 -- `run_text::write_signed` meets its contract. Assumes nothing.
 use Prim.Native.Nat.{ℕ, _≤_}
-use mathlib.Core.Path.{_≡_, sym, ap, _∙_}
+use mathlib.Core.Path.{_≡_, ap, _∙_}
 use mathlib.Core.List.{_++_}
 use native.Mathlib.Omega.{arith}
 use lib.IntN.{pos}
@@ -12,7 +12,6 @@ use Rattle.width.specs.Width.{positivePart, negativePart}
 use Rattle.listing.specs.Decimal.{number}
 use Rattle.listing.specs.Listing.{ascii}
 use Rattle.listing.proofs.Wrote.{wrote-copy, wrote-more, wrote-as}
-use Rattle.run_text.specs.RunText.{signedNumber}
 use Rattle.run_text.proofs.Signed.{signed-positive, signed-negative, positive-digits, negative-digits}
 use borrow.Author.Needs.{needs}
 use Rattle.run_text.proofs.write_signed.Statement.{statement}
