@@ -1,0 +1,85 @@
+// Document 01's calls for hosts in C and Rust: over numbers and byte slices alone. Rests on compiler, checker and layout.
+ghost use mathlib.Core.Path.{_≡_};
+ghost use lib.ListN.{length};
+ghost use Rattle.compiler.specs.Compile.{compileAnswer, compileBuffer};
+ghost use Rattle.checker.specs.Read.{readAnswer};
+ghost use Rattle.checker.specs.Check.{checkAnswer};
+ghost use Rattle.layout.specs.Step.{stepNumbers};
+
+// Each function returns the refusal's number, 0 where it accepts, and writes the other numbers of the answer through the references.
+
+// Compile: from a matrix record to its netlist, at the start of the lent buffer.
+#[no_mangle]
+pub extern "C" fn zaatarloft_compile(
+    matrix: &[u8],
+    buffer: &mut [u8],
+    place: &mut usize,
+    written: &mut usize,
+    operations: &mut u16,
+    plain: &mut u16,
+    divisors: &mut u16,
+    replacements: &mut u16,
+    depth: &mut u16,
+) -> u8
+    ensures { λ r. ⌜ record { refusal = r; place = now (place .exit); written = now (written .exit); operations = now (operations .exit); plain = now (plain .exit); divisors = now (divisors .exit); replacements = now (replacements .exit); depth = now (depth .exit) } ≡ compileAnswer (now (matrix .entry)) (length (now (buffer .entry))) ⌝ }
+    ensures { λ _. ⌜ now (buffer .exit) ≡ compileBuffer (now (matrix .entry)) (now (buffer .entry)) ⌝ }
+{
+    let answer = compiler::compile(matrix, buffer);
+    *place = answer.place;
+    *written = answer.written;
+    *operations = answer.operations;
+    *plain = answer.plain;
+    *divisors = answer.divisors;
+    *replacements = answer.replacements;
+    *depth = answer.depth;
+    answer.refusal
+}
+
+// Read: m, n, operations and depth of a netlist.
+#[no_mangle]
+pub extern "C" fn zaatarloft_read(
+    netlist: &[u8],
+    place: &mut usize,
+    m: &mut u8,
+    n: &mut u8,
+    operations: &mut u16,
+    depth: &mut u16,
+) -> u8
+    ensures { λ r. ⌜ record { refusal = r; place = now (place .exit); m = now (m .exit); n = now (n .exit); operations = now (operations .exit); depth = now (depth .exit) } ≡ readAnswer (now (netlist .entry)) ⌝ }
+{
+    let answer = checker::read::read(netlist);
+    *place = answer.place;
+    *m = answer.m;
+    *n = answer.n;
+    *operations = answer.operations;
+    *depth = answer.depth;
+    answer.refusal
+}
+
+// Check: whether a netlist computes a matrix.
+#[no_mangle]
+pub extern "C" fn zaatarloft_check(matrix: &[u8], netlist: &[u8], place: &mut usize) -> u8
+    ensures { λ r. ⌜ record { refusal = r; place = now (place .exit) } ≡ checkAnswer (now (matrix .entry)) (now (netlist .entry)) ⌝ }
+{
+    let answer = checker::check::check(matrix, netlist);
+    *place = answer.place;
+    answer.refusal
+}
+
+// Step: the numbers of the step over the record at a place. An accepted record's payload starts 4 bytes behind that place and ends at the next.
+#[no_mangle]
+pub extern "C" fn zaatarloft_step(
+    bytes: &[u8],
+    at: usize,
+    place: &mut usize,
+    kind: &mut u16,
+    next: &mut usize,
+) -> u8
+    ensures { λ r. ⌜ record { refusal = r; place = now (place .exit); kind = now (kind .exit); next = now (next .exit) } ≡ stepNumbers (now (bytes .entry)) at ⌝ }
+{
+    let numbers = layout::step::step_numbers(bytes, at);
+    *place = numbers.place;
+    *kind = numbers.kind;
+    *next = numbers.next;
+    numbers.refusal
+}
