@@ -17,11 +17,11 @@ use Rattle.width.proofs.FormLaws.{entry-form-keeps}
 use Rattle.width.proofs.DepthLaws.{depths-at-most, largest-snoc}
 use Rattle.width.proofs.TableLaws.{started-holds, row-is, output-row-is, appended-holds, depth-appended}
 use Rattle.width.proofs.BoundLaws.{sample-width, forms-small, appended-range-small, output-row-range-small}
-use Rattle.checker.specs.Read.{operationAt, operationWidth, outputWidth}
-use Rattle.checker.specs.Exact.{OperationLimits, OutputLimits}
-use Rattle.checker.specs.Tests.{firstRecords}
+use Rattle.reading.specs.Read.{operationAt, operationWidth, outputWidth}
+use Rattle.reading.specs.Exact.{OperationLimits, OutputLimits}
+use Rattle.reading.specs.Tests.{firstRecords}
 use Rattle.checker.specs.Tables.{filled, operationsBefore, FormsHeld, DepthsHeld}
-use Rattle.checker.proofs.FirstRecords.{length-first}
+use Rattle.reading.proofs.FirstRecords.{length-first}
 
 -- ---- tables that were just made
 

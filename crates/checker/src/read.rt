@@ -1,16 +1,16 @@
 // Document 01, "Reading, checking, running" and "Why a record was declined": reading a netlist, refusals 7 to 12 record by record.
-use super::ReadAnswer;
 use layout::Head;
 use layout::Operation;
 use layout::Output;
 use layout::Totals;
+use reading::ReadAnswer;
 use term::Term;
 ghost use mathlib.Core.Path.{_≡_};
 ghost use Prim.Native.Nat.{_+_, _*_, _≤_, _<_, max};
 ghost use lib.IntN.{pos};
 ghost use lib.ListN.{length, take};
 ghost use Rattle.width.specs.Machine.{largest};
-ghost use Rattle.checker.specs.Read.{recordRefusal, headInRange, headRefusal, headAt, operationInRange, outputInRange, outputRefusal, totalsRefusal, widthRight, readAnswer};
+ghost use Rattle.reading.specs.Read.{recordRefusal, headInRange, headRefusal, headAt, operationInRange, outputInRange, outputRefusal, totalsRefusal, widthRight, readAnswer};
 ghost use Rattle.layout.specs.Step.{payloadAt};
 ghost use Rattle.layout.specs.Records.{operationOf, outputOf, totalsOf};
 ghost use Rattle.checker.specs.Tables.{filled, operationsBefore, FormsHeld, DepthsHeld, OperationRead, OperationsRead, OutputsRead, HeadRead, NetlistHeld, RecordsRead};
@@ -360,19 +360,6 @@ fn records(bytes: &[u8], head: Head, forms: &mut [i64; 4096], depths: &mut [u16;
     }
 }
 
-fn refused(refusal: u8, place: usize) -> ReadAnswer
-    ensures { λ r. ⌜ r ≡ record { refusal = refusal; place = place; m = 0; n = 0; operations = 0; depth = 0 } ⌝ }
-{
-    ReadAnswer {
-        refusal,
-        place,
-        m: 0,
-        n: 0,
-        operations: 0,
-        depth: 0,
-    }
-}
-
 // Read, and where it accepts, the coefficients of every entry in the first table.
 pub(crate) fn netlist(bytes: &[u8], forms: &mut [i64; 4096], depths: &mut [u16; 512]) -> ReadAnswer
     requires { ⌜ (length (now forms) ≡ 4096) × (now depths ≡ filled 512 0) ⌝ }
@@ -380,12 +367,12 @@ pub(crate) fn netlist(bytes: &[u8], forms: &mut [i64; 4096], depths: &mut [u16; 
 {
     let refusal = head_refusal(bytes);
     if refusal != 0 {
-        return refused(refusal, 0);
+        return ReadAnswer::refused(refusal, 0);
     }
     let head = head_at(bytes);
     let behind = records(bytes, head, forms, depths);
     if behind.refusal != 0 {
-        return refused(behind.refusal, behind.place);
+        return ReadAnswer::refused(behind.refusal, behind.place);
     }
     let place = 8 + 12 * (head.operations as usize) + 9 * (head.m as usize);
     let totals = totals_at(bytes, place);

@@ -1,5 +1,5 @@
 // Document 01, "Reading, checking, running" and "Why a record was declined": running a netlist on samples, refusals 7 to 12, 15, 16.
-use super::RunAnswer;
+use reading::RunAnswer;
 ghost use mathlib.Core.Path.{_≡_};
 ghost use mathlib.Core.List.{map};
 ghost use Prim.Native.Nat.{_+_, _≤_};
@@ -7,9 +7,9 @@ ghost use lib.IntN.{pos};
 ghost use lib.ListN.{length, take};
 ghost use Rattle.width.specs.Machine.{machine, outputValue};
 ghost use Rattle.width.specs.Width.{Samples};
-ghost use Rattle.checker.specs.Read.{headAt};
-ghost use Rattle.checker.specs.Run.{runAnswer, runOutputs};
-ghost use Rattle.checker.specs.Tests.{operationsIn, outputsIn};
+ghost use Rattle.reading.specs.Read.{headAt};
+ghost use Rattle.reading.specs.Run.{runAnswer, runOutputs};
+ghost use Rattle.reading.specs.Tests.{operationsIn, outputsIn};
 ghost use Rattle.checker.specs.Tables.{filled, NetlistRead, SamplesHeld, BoardReady};
 
 // A table for the values of the board machine.

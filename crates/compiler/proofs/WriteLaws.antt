@@ -22,9 +22,9 @@ use Rattle.width.proofs.TableLaws.{sets-inside, operation-row-is, output-row-is
 use Rattle.width.proofs.DepthLaws.{depth-snoc, depths-at-most}
 use Rattle.width.proofs.BoundLaws.{forms-small, appended-range-small, output-row-range-small}
 use Rattle.compiler.specs.Lists.{noOperation, noOutput}
-use Rattle.compiler.specs.Compile.{sampleWidth, withWidth, withWidths, outputWithWidth}
+use Rattle.compilation.specs.Compile.{sampleWidth, withWidth, withWidths, outputWithWidth}
 use Rattle.compiler.specs.Tables.{Writable, EarlierOutputs, WritableOutputs, withTableWidth, noForms, noDepths}
-use Rattle.compiler.proofs.Counts.{length-with-widths}
+use Rattle.compilation.proofs.Counts.{length-with-widths}
 
 -- ---- a row that is written is read back
 

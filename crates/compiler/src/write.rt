@@ -16,7 +16,7 @@ ghost use Rattle.width.specs.Machine.{depth};
 ghost use Rattle.width.specs.Width.{width};
 ghost use Rattle.width.specs.Table.{operationRow, formAppended, HoldsForms, SmallForms, SmallRange};
 ghost use Rattle.compiler.specs.Lists.{operationsList, outputsList};
-ghost use Rattle.compiler.specs.Compile.{sampleWidth, withWidth, withWidths};
+ghost use Rattle.compilation.specs.Compile.{sampleWidth, withWidth, withWidths};
 ghost use Rattle.compiler.specs.Tables.{Writable, WritableOutputs, EarlierOutputs, withTableWidth, recordedNetlist, noForms, noDepths};
 
 // "over all samples from −32,768 to 32,767".

@@ -7,9 +7,9 @@ use lib.IntN.{ℤ, pos}
 use lib.ListN.{length, take}
 use Rattle.width.specs.Machine.{machine}
 use Rattle.width.specs.Width.{Samples}
-use Rattle.checker.specs.declared.ReadAnswer.{ReadAnswer}
-use Rattle.checker.specs.Read.{accepted, headAt, readNetlist, readAccepted}
-use Rattle.checker.specs.Tests.{operationsIn, netlistIn}
+use Rattle.reading.specs.declared.ReadAnswer.{ReadAnswer}
+use Rattle.reading.specs.Read.{accepted, headAt, readNetlist, readAccepted}
+use Rattle.reading.specs.Tests.{operationsIn, netlistIn}
 use Rattle.checker.specs.Tables.{NetlistRead, BoardReady}
 use Rattle.checker.proofs.HeldLaws.{length-filled}
 use Rattle.checker.proofs.NetlistLaws.{head-limits, answer-accepted}

@@ -15,9 +15,9 @@ use Rattle.layout.proofs.Written.{written-start, length-written}
 use Rattle.width.specs.Table.{HoldsForms, formsStarted}
 use Rattle.width.proofs.TableLaws.{started-holds}
 use Rattle.compiler.specs.Lists.{operationsList, outputsList}
-use Rattle.compiler.specs.Compile.{sampleWidth, withWidths, outputWithWidth}
+use Rattle.compilation.specs.Compile.{sampleWidth, withWidths, outputWithWidth}
 use Rattle.compiler.specs.Tables.{recordedNetlist, noForms}
-use Rattle.compiler.proofs.Counts.{length-with-widths}
+use Rattle.compilation.proofs.Counts.{length-with-widths}
 use Rattle.compiler.proofs.WriteLaws.{length-no-forms, outputs-writable, table-widths, netlist-written}
 use Rattle.compiler.proofs.write.write_netlist.Statement.{statement}
 use Rattle.compiler.proofs.write.write_netlist.Tie as tie
