@@ -2,7 +2,7 @@
 // (2 bytes each, little-endian), then the record's bytes. The answer and the buffer afterwards, which held A5 before, are printed
 // and compared with the output of a second implementation.
 use compilation::CompileAnswer;
-use layout::bytes::word_at;
+use layout::little_endian::word_at;
 use libc::STDIN_FILENO;
 use libc::STDOUT_FILENO;
 ghost use mathlib.Core.Path.{_≡_};

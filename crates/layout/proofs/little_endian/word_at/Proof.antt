@@ -1,9 +1,9 @@
--- `layout::bytes::word_at` meets its contract. Assumes nothing.
+-- `layout::little_endian::word_at` meets its contract. Assumes nothing.
 use Prim.Native.Nat.{_+_}
 use native.Mathlib.Omega.{arith}
 use borrow.Author.Needs.{needs}
-use Rattle.layout.proofs.bytes.word_at.Statement.{statement}
-use Rattle.layout.proofs.bytes.word_at.Tie as tie
+use Rattle.layout.proofs.little_endian.word_at.Statement.{statement}
+use Rattle.layout.proofs.little_endian.word_at.Tie as tie
 
 shared-slice-read-low : tie.Need-shared-slice-read-low
 shared-slice-read-low c = search needs
