@@ -18,10 +18,6 @@ use Rattle.reading.specs.declared.CheckAnswer.{CheckAnswer}
 use Rattle.reading.specs.Check.{rowsAnswer}
 use Rattle.reading.specs.Tests.{firstRecords, operationsIn, outputsIn, totalsPlace, netlistIn}
 
--- a table of k places that all hold x
-unfoldable pub filled : {A : Type 0} → ℕ → A → List A
-filled k x = replicate k x
-
 -- the first k operations in the bytes
 abbrev pub operationsBefore : List ℕ → ℕ → List Operation
 operationsBefore bytes k = firstRecords (operationAt bytes) k

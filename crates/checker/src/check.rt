@@ -65,8 +65,8 @@ pub fn check(matrix: &[u8], netlist: &[u8]) -> CheckAnswer
     if refusal != 0 {
         return CheckAnswer { refusal, place: 0 };
     }
-    let mut forms = super::read::blank_forms();
-    let mut depths = super::read::blank_depths();
+    let mut forms = width::blank_forms();
+    let mut depths = width::blank_depths();
     let read = super::read::netlist(netlist, &mut forms, &mut depths);
     if read.refusal != 0 {
         return CheckAnswer {

@@ -49,10 +49,3 @@ recordedNetlist s m n os outputs =
       outputs = map (outputWithWidth s n os) outputs;
       totals = record { operations = length os; depth = depth n os };
     }
-
--- tables before anything is entered
-unfoldable pub noForms : ℕ → List ℤ
-noForms size = replicate size (pos 0)
-
-unfoldable pub noDepths : ℕ → List ℕ
-noDepths size = replicate size 0
