@@ -1,8 +1,8 @@
 // Document 01, "Reading, checking, running": run, with the samples given as bytes, 2 bytes each, little-endian two's complement, as the
 // matrix record's coefficients are. Rests on layout and checker.
-use reading::RunAnswer;
 use layout::little_endian::word_at;
 use layout::matrix::signed_word;
+use reading::RunAnswer;
 ghost use mathlib.Core.Path.{_≡_};
 ghost use Prim.Native.Nat.{_*_, _≤_};
 ghost use lib.ListN.{length, take};
