@@ -1,4 +1,4 @@
--- Looking a symbol and an exponent up term by term: what one term says, and what is left to find from a place on.
+-- Looking a symbol and an exponent up term by term: what one term says, what is left to find from a place on, and that what is found is the term asked for.
 -- Assumes nothing.
 use Prim.Native.Nat.{ℕ, suc, _+_, _≤_, _<_}
 use mathlib.Core.Path.{_≡_, refl, sym, ap, ap₂, _∙_}
@@ -7,14 +7,14 @@ use mathlib.Core.List.{[], _∷_}
 use native.Mathlib.Omega.{arith}
 use native.Mathlib.Numerals.{add-one}
 use native.Mathlib.Nat.{zero-add}
-use borrow.Author.Tests.{eq-eqb, ne-eqb}
+use borrow.Author.Tests.{eqb-true, eq-eqb, ne-eqb}
 use lib.Dec.{eqb}
 use lib.ListN.{length, getD, drop, drop-of-length-le}
 use lib.Seq.{drop-cons}
 use Rattle.term.specs.declared.Term.{Term}
 use Rattle.elimination.specs.Rows.{Row}
 use Rattle.elimination.specs.Lookup.{signNumber, signAt}
-use Rattle.elimination.proofs.Tests.{by-bool, and-both, and-no-left, and-no-right}
+use Rattle.elimination.proofs.Tests.{by-bool, and-left, and-right, and-both, and-no-left, and-no-right}
 use Rattle.lookup.specs.declared.Found.{Found}
 use Rattle.lookup.specs.Found.{placeAt, foundIn}
 
@@ -26,6 +26,15 @@ module _ (s e : ℕ) where
   -- a term has the symbol and exponent
   is : Term → Bool
   is t = eqb (t .symbol) s && eqb (t .exponent) e
+
+  module _ (t : Term) (h : is t ≡ true) where
+    is-symbol : t .symbol ≡ s
+    unfolding is
+    is-symbol = eqb-true (t .symbol) s (and-left (eqb (t .symbol) s) (eqb (t .exponent) e) h)
+
+    is-exponent : t .exponent ≡ e
+    unfolding is
+    is-exponent = eqb-true (t .exponent) e (and-right (eqb (t .symbol) s) (eqb (t .exponent) e) h)
 
   -- what the first term says of a row
   module _ (t : Term) (r : Row) where
@@ -112,3 +121,22 @@ module _ (s e : ℕ) where
         let p : placeAt (drop i r) s e ≡ suc (placeAt rest s e) = ap (λ (z : Row). placeAt z s e) (drop-cons r i d l) ∙ place-later t rest y in
         let n : signAt (drop i r) s e ≡ signAt rest s e = ap (λ (z : Row). signAt z s e) (drop-cons r i d l) ∙ sign-later t rest y in
         rw (add-one i) (ap₂ found (omega arith) n))
+
+  -- ---- what is found, where it is said to stand
+
+  -- the term that stands there has the symbol, the exponent and the sign
+  pub found-there : (r : Row) (d : Term) → (signAt r s e ≡ 0 → ⊥)
+      → (placeAt r s e < length r) × (getD r (placeAt r s e) d .symbol ≡ s) × (getD r (placeAt r s e) d .exponent ≡ e) × (signNumber (getD r (placeAt r s e) d .negative) ≡ signAt r s e)
+  found-there [] d h = absurd (h no-terms)
+  found-there (t ∷ r) d h =
+      by-bool (is t)
+      (λ y. rw (place-here t r y) (omega arith, is-symbol t y, is-exponent t y, sym (sign-here t r y)))
+      (λ y. let (l, p, q, n) = found-there r d (λ z. h (sign-later t r y ∙ z)) in rw (place-later t r y, sign-later t r y) (omega arith, p, q, n))
+
+  -- where no sign is found, the place is past the last term
+  pub found-none : (r : Row) → signAt r s e ≡ 0 → placeAt r s e ≡ length r
+  found-none [] h = no-place
+  found-none (t ∷ r) h =
+      by-bool (is t)
+      (λ y. absurd (no-sign (t .negative) (sym h ∙ sign-here t r y)))
+      (λ y. place-later t r y ∙ ap suc (found-none r (sym (sign-later t r y) ∙ h)))

@@ -3,6 +3,8 @@
 use term::Term;
 ghost use mathlib.Core.Path.{_≡_};
 ghost use mathlib.Core.List.{[], _∷_};
+ghost use Prim.Native.Nat.{_≤_};
+ghost use lib.ListN.{take};
 ghost use Rattle.elimination.specs.Lookup.{signNumber, signAt};
 ghost use Rattle.lookup.specs.Found.{foundIn};
 
@@ -12,6 +14,7 @@ pub struct Found {
     pub sign: u8,
 }
 
+// A term's sign as a number.
 pub fn sign_of(t: Term) -> u8
     ensures { λ r. ⌜ r ≡ signNumber (t .negative) ⌝ }
 {
@@ -45,4 +48,12 @@ pub fn lookup(terms: &[Term], symbol: u16, exponent: usize) -> Found
         place += 1;
     }
     Found { place, sign }
+}
+
+// The lookup among the first terms of an array, which are lent for it.
+pub fn lookup_among(terms: [Term; 64], count: usize, symbol: u16, exponent: usize) -> Found
+    requires { ⌜ count ≤ 64 ⌝ }
+    ensures { λ r. ⌜ r ≡ foundIn (take count terms) symbol exponent ⌝ }
+{
+    lookup(&terms[..count], symbol, exponent)
 }

@@ -1,5 +1,5 @@
 -- `lookup::sign_as` meets its contract. Assumes nothing.
-use mathlib.Core.Path.{_∙_, sym, ap}
+use mathlib.Core.Path.{_∙_, sym}
 use borrow.Author.Needs.{needs}
 use Rattle.lookup.proofs.Looking.{other-symbol, other-exponent, own-sign}
 use Rattle.lookup.proofs.sign_as.Statement.{statement}
