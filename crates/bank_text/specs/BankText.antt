@@ -3,7 +3,7 @@
 use Prim.Native.Nat.{ℕ, zero, suc}
 use mathlib.Core.List.{List}
 use Rattle.layout.specs.Matrix.{matrixRefusal, rows, columns}
-use Rattle.compiler.specs.Compile.{compileAccepted, compiledNetlist}
+use Rattle.compilation.specs.Compile.{compileAccepted, compiledNetlist}
 use Rattle.listing.specs.declared.Counts.{Counts}
 use Rattle.listing.specs.Listing.{listing, refusedLine}
 use Rattle.listing.specs.Wrote.{textIn}

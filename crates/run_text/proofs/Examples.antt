@@ -7,9 +7,9 @@ use Rattle.layout.specs.Records.{headPayload, operationPayload, outputPayload, 
 use Rattle.layout.specs.Step.{stepRefusal, payloadAt}
 use Rattle.width.specs.Machine.{machine, entryForm, outputForm, depth}
 use Rattle.width.specs.Width.{width}
-use Rattle.checker.specs.Read.{recordRefusal, headRefusal, operationRefusal, outputRefusal, totalsRefusal, readRecords, readNetlist, readAnswer}
-use Rattle.checker.specs.Run.{countsAnswer, runAnswer, runOutputs}
-use Rattle.checker.specs.Tests.{firstRecords}
+use Rattle.reading.specs.Read.{recordRefusal, headRefusal, operationRefusal, outputRefusal, totalsRefusal, readRecords, readNetlist, readAnswer}
+use Rattle.reading.specs.Run.{countsAnswer, runAnswer, runOutputs}
+use Rattle.reading.specs.Tests.{firstRecords}
 use Rattle.samples.specs.Samples.{samplesOf}
 use Rattle.listing.specs.Decimal.{decimal, number}
 use Rattle.run_text.specs.RunText.{runText}

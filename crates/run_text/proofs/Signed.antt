@@ -12,7 +12,7 @@ use mir.Syntax.{w64}
 use mir.Val.{SFits}
 use Rattle.integers.proofs.Expression.{nat, below-parts}
 use Rattle.width.specs.Width.{positivePart, negativePart}
-use Rattle.checker.proofs.ReadAccepts.{flat-snoc}
+use Rattle.reading.proofs.ReadAccepts.{flat-snoc}
 use Rattle.listing.specs.Decimal.{number}
 use Rattle.listing.specs.Listing.{ascii}
 use Rattle.listing.proofs.Decimal.{length-number}

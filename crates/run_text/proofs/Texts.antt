@@ -8,10 +8,10 @@ use lib.IntN.{ℤ, pos}
 use lib.ListN.{length, replicate}
 use Rattle.layout.specs.Records.{Netlist}
 use Rattle.layout.proofs.LittleEndian.{AreBytes}
-use Rattle.checker.specs.declared.RunAnswer.{RunAnswer}
-use Rattle.checker.specs.Read.{Reading, refused, accepted, readNetlist, answerOf, readAnswer}
-use Rattle.checker.specs.Run.{runAnswer, runOutputs}
-use Rattle.checker.proofs.ReadAccepts.{reads-netlist}
+use Rattle.reading.specs.declared.RunAnswer.{RunAnswer}
+use Rattle.reading.specs.Read.{Reading, refused, accepted, readNetlist, answerOf, readAnswer}
+use Rattle.reading.specs.Run.{runAnswer, runOutputs}
+use Rattle.reading.proofs.ReadAccepts.{reads-netlist}
 use Rattle.samples.specs.Samples.{samplesOf}
 use Rattle.listing.specs.Listing.{refusedLine}
 use Rattle.run_text.specs.RunText.{outputLines, rowsRead, runText}

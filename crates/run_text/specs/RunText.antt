@@ -4,8 +4,8 @@ use Prim.Native.Nat.{ℕ, zero, suc}
 use mathlib.Core.List.{List, _++_, flatMap}
 use lib.IntN.{ℤ, pos, negsuc}
 use lib.ListN.{length, replicate}
-use Rattle.checker.specs.Read.{readAnswer}
-use Rattle.checker.specs.Run.{runAnswer, runOutputs}
+use Rattle.reading.specs.Read.{readAnswer}
+use Rattle.reading.specs.Run.{runAnswer, runOutputs}
 use Rattle.samples.specs.Samples.{samplesOf}
 use Rattle.listing.specs.Decimal.{number}
 use Rattle.listing.specs.Listing.{ascii, refusedLine}

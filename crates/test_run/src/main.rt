@@ -2,7 +2,7 @@
 // the number of runs (2 bytes), the netlist, then for each run the number of samples and the number of outputs lent (1 byte each) and the
 // samples (2 bytes each). For each run the answer and what the outputs hold afterwards are printed in a line, which is compared with the
 // output of a second implementation.
-use layout::bytes::word_at;
+use layout::little_endian::word_at;
 use layout::matrix::signed_word;
 use libc::STDIN_FILENO;
 use libc::STDOUT_FILENO;

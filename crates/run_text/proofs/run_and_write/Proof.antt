@@ -5,7 +5,7 @@ use mathlib.Core.List.{List}
 use native.Mathlib.Omega.{arith}
 use lib.IntN.{ℤ, pos}
 use lib.ListN.{length, replicate, length-replicate}
-use Rattle.checker.specs.Run.{runAnswer, runOutputs}
+use Rattle.reading.specs.Run.{runAnswer, runOutputs}
 use Rattle.samples.specs.Samples.{samplesOf}
 use Rattle.listing.proofs.Wrote.{wrote-as}
 use Rattle.run_text.specs.RunText.{outputLines, rowsRead}

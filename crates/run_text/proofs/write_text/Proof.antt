@@ -5,8 +5,9 @@ use mathlib.Core.List.{List}
 use native.Mathlib.Omega.{arith}
 use lib.IntN.{ℤ, pos}
 use lib.ListN.{length, take, replicate, length-replicate}
-use Rattle.checker.specs.declared.ReadAnswer.{ReadAnswer}
-use Rattle.checker.proofs.HeldLaws.{take-replicate}
+use Rattle.reading.specs.declared.ReadAnswer.{ReadAnswer}
+use Rattle.width.specs.Table.{filled}
+use Rattle.width.proofs.TableLaws.{take-filled}
 use Rattle.run_text.specs.RunText.{rowsRead}
 use Rattle.run_text.proofs.Texts.{rows-few}
 use borrow.Author.Needs.{needs}
@@ -28,7 +29,8 @@ module _ (c : tie.After-read) where
   few = omega (arith, rows, rows-few netlist (λ i. omega (arith, known .shared-slice-known .given i)))
 
   lent : take (c .read .result .m) (replicate 8 (pos 0)) ≡ replicate (rowsRead netlist) (pos 0)
-  lent = take-replicate (c .read .result .m) 8 (pos 0) few ∙ ap (λ (k : ℕ). replicate k (pos 0)) rows
+  unfolding filled
+  lent = take-filled (pos 0) (c .read .result .m) 8 few ∙ ap (λ (k : ℕ). replicate k (pos 0)) rows
 
   count : length (take (c .read .result .m) (replicate 8 (pos 0))) ≡ c .read .result .m
   count = ap (λ (l : List ℤ). length l) lent ∙ length-replicate (rowsRead netlist) (pos 0) ∙ sym rows

@@ -1,0 +1,289 @@
+//! Zaatarloft's calls for Rust: safe wrappers of the proved library.
+//!
+//! A matrix record goes in as bytes, a netlist of additions, subtractions and shifts comes out as bytes. The calls are proved;
+//! these wrappers are not. Each returns what document 01 says, or the refusal with its number and place.
+//!
+//! ```
+//! let matrix = [0x0A, 0, 1, 0, 1, 2, 3, 0, 0xFD, 0xFF]; // row 3, −3
+//! let mut buffer = [0; 6136];
+//! let compiled = zaatarloft::compile(&matrix, &mut buffer)?;
+//! assert_eq!((compiled.operations, compiled.depth), (2, 2));
+//! let mut outputs = [0];
+//! zaatarloft::run(&buffer[..compiled.written], &[32_767, -32_768], &mut outputs)?;
+//! assert_eq!(outputs, [196_605]);
+//! # Ok::<(), zaatarloft::Refusal>(())
+//! ```
+
+use std::error::Error;
+use std::fmt;
+
+// The declarations must agree with crates/ffi/src/lib.rt; nothing checks that. A slice is a pointer and a length. A function
+// keeps no pointer and writes only the buffer and the numbers lent to it. All numbers of an answer are written, also on a refusal.
+extern "C" {
+    fn zaatarloft_compile(
+        matrix: *const u8,
+        matrix_length: usize,
+        buffer: *mut u8,
+        buffer_length: usize,
+        place: &mut usize,
+        written: &mut usize,
+        operations: &mut u16,
+        plain: &mut u16,
+        divisors: &mut u16,
+        replacements: &mut u16,
+        depth: &mut u16,
+    ) -> u8;
+    fn zaatarloft_read(
+        netlist: *const u8,
+        netlist_length: usize,
+        place: &mut usize,
+        m: &mut u8,
+        n: &mut u8,
+        operations: &mut u16,
+        depth: &mut u16,
+    ) -> u8;
+    fn zaatarloft_check(
+        matrix: *const u8,
+        matrix_length: usize,
+        netlist: *const u8,
+        netlist_length: usize,
+        place: &mut usize,
+    ) -> u8;
+    fn zaatarloft_run(
+        netlist: *const u8,
+        netlist_length: usize,
+        samples: *const u8,
+        samples_length: usize,
+        outputs: *mut u8,
+        outputs_length: usize,
+        place: &mut usize,
+    ) -> u8;
+    fn zaatarloft_step(
+        bytes: *const u8,
+        bytes_length: usize,
+        at: usize,
+        place: &mut usize,
+        kind: &mut u16,
+        next: &mut usize,
+    ) -> u8;
+}
+
+/// Why a record was declined: document 01's number and place.
+#[derive(Debug, Clone, Copy, PartialEq, Eq)]
+pub struct Refusal {
+    /// From 1 to 16.
+    pub number: u8,
+    /// A place in the bytes lent; a row for 14.
+    pub place: usize,
+}
+
+impl Refusal {
+    /// Document 01's words for the number.
+    pub fn words(&self) -> &'static str {
+        match self.number {
+            1 => "fewer than 6 matrix bytes",
+            2 => "length field differs from the number of bytes lent",
+            3 => "kind is not 1",
+            4 => "m or n outside 1 to 8",
+            5 => "length is not 6 + 2 times m times n",
+            6 => "output buffer shorter than the netlist",
+            7 => "under 4 bytes remain, or the length exceeds what remains",
+            8 => "kind or length not the expected one",
+            9 => {
+                "a field other than a recorded width or a total out of range, an operand not earlier than its operation, \
+                 an output symbol not below n + operations, or a zero output not as above, its width included"
+            }
+            10 => "recorded width is not the width, or the width exceeds 40",
+            11 => "totals differ from the head's count or the depth",
+            12 => "bytes left over",
+            13 => "m or n of matrix and netlist differ",
+            14 => "lowest row whose coefficients differ",
+            15 => "samples are not n",
+            16 => "outputs lent are not m",
+            _ => "no refusal of document 01",
+        }
+    }
+}
+
+impl fmt::Display for Refusal {
+    fn fmt(&self, f: &mut fmt::Formatter<'_>) -> fmt::Result {
+        write!(
+            f,
+            "refused {} at {}: {}",
+            self.number,
+            self.place,
+            self.words()
+        )
+    }
+}
+
+impl Error for Refusal {}
+
+/// What an accepted compile returns.
+#[derive(Debug, Clone, Copy, PartialEq, Eq)]
+pub struct Compiled {
+    /// The netlist is the buffer's first `written` bytes; the bytes behind them are as they were.
+    pub written: usize,
+    pub operations: u16,
+    pub plain: u16,
+    pub divisors: u16,
+    pub replacements: u16,
+    pub depth: u16,
+}
+
+/// What an accepted read returns.
+#[derive(Debug, Clone, Copy, PartialEq, Eq)]
+pub struct Netlist {
+    pub m: u8,
+    pub n: u8,
+    pub operations: u16,
+    pub depth: u16,
+}
+
+/// What an accepted step returns.
+#[derive(Debug, Clone, Copy, PartialEq, Eq)]
+pub struct Record<'a> {
+    pub kind: u16,
+    /// The part of the lent bytes behind length and kind.
+    pub payload: &'a [u8],
+    /// The place behind the record.
+    pub next: usize,
+}
+
+/// Where the number is 0, what was accepted.
+fn accepted<T>(number: u8, place: usize, answer: T) -> Result<T, Refusal> {
+    if number == 0 {
+        Ok(answer)
+    } else {
+        Err(Refusal { number, place })
+    }
+}
+
+/// From a matrix record to its netlist, at the start of the buffer; 6,136 bytes always suffice. Refusals 1 to 6, which leave
+/// the buffer as it was.
+pub fn compile(matrix: &[u8], buffer: &mut [u8]) -> Result<Compiled, Refusal> {
+    let mut place = 0;
+    let mut compiled = Compiled {
+        written: 0,
+        operations: 0,
+        plain: 0,
+        divisors: 0,
+        replacements: 0,
+        depth: 0,
+    };
+    // SAFETY: both slices are valid for their lengths, the buffer for writes, and all references are to distinct numbers.
+    let number = unsafe {
+        zaatarloft_compile(
+            matrix.as_ptr(),
+            matrix.len(),
+            buffer.as_mut_ptr(),
+            buffer.len(),
+            &mut place,
+            &mut compiled.written,
+            &mut compiled.operations,
+            &mut compiled.plain,
+            &mut compiled.divisors,
+            &mut compiled.replacements,
+            &mut compiled.depth,
+        )
+    };
+    accepted(number, place, compiled)
+}
+
+/// Reads a netlist, and with it tests every record of it. Refusals 7 to 12.
+pub fn read(netlist: &[u8]) -> Result<Netlist, Refusal> {
+    let mut place = 0;
+    let mut read = Netlist {
+        m: 0,
+        n: 0,
+        operations: 0,
+        depth: 0,
+    };
+    // SAFETY: the slice is valid for its length, and all references are to distinct numbers.
+    let number = unsafe {
+        zaatarloft_read(
+            netlist.as_ptr(),
+            netlist.len(),
+            &mut place,
+            &mut read.m,
+            &mut read.n,
+            &mut read.operations,
+            &mut read.depth,
+        )
+    };
+    accepted(number, place, read)
+}
+
+/// Accepts a netlist that computes the matrix, whoever made it. Refusals 1 to 5, 7 to 12, 13 and 14.
+pub fn check(matrix: &[u8], netlist: &[u8]) -> Result<(), Refusal> {
+    let mut place = 0;
+    // SAFETY: both slices are valid for their lengths.
+    let number = unsafe {
+        zaatarloft_check(
+            matrix.as_ptr(),
+            matrix.len(),
+            netlist.as_ptr(),
+            netlist.len(),
+            &mut place,
+        )
+    };
+    accepted(number, place, ())
+}
+
+/// Runs a netlist on n samples and fills m outputs. Refusals 7 to 12, 15 and 16, which leave the outputs as they were.
+pub fn run(netlist: &[u8], samples: &[i16], outputs: &mut [i64]) -> Result<(), Refusal> {
+    // n and m are at most 8. More samples or outputs are refused like none, so none are lent then.
+    let mut sample_bytes = [0; 16];
+    let mut output_bytes = [0; 64];
+    let sample_bytes = sample_bytes
+        .get_mut(..2 * samples.len())
+        .unwrap_or_default();
+    let output_bytes = output_bytes
+        .get_mut(..8 * outputs.len())
+        .unwrap_or_default();
+    for (bytes, sample) in sample_bytes.chunks_exact_mut(2).zip(samples) {
+        bytes.copy_from_slice(&sample.to_le_bytes());
+    }
+    let mut place = 0;
+    // SAFETY: all three slices are valid for their lengths, the outputs for writes, and none of them overlaps another.
+    let number = unsafe {
+        zaatarloft_run(
+            netlist.as_ptr(),
+            netlist.len(),
+            sample_bytes.as_ptr(),
+            sample_bytes.len(),
+            output_bytes.as_mut_ptr(),
+            output_bytes.len(),
+            &mut place,
+        )
+    };
+    accepted(number, place, ())?;
+    for (output, bytes) in outputs.iter_mut().zip(output_bytes.chunks_exact(8)) {
+        *output = i64::from_le_bytes(bytes.try_into().expect("8 bytes each"));
+    }
+    Ok(())
+}
+
+/// The record at a place, for any bytes and any place. Refusals 7, and 8 for a length below 4.
+pub fn step(bytes: &[u8], place: usize) -> Result<Record<'_>, Refusal> {
+    let mut refused_at = 0;
+    let mut kind = 0;
+    let mut next = 0;
+    // SAFETY: the slice is valid for its length, and all references are to distinct numbers.
+    let number = unsafe {
+        zaatarloft_step(
+            bytes.as_ptr(),
+            bytes.len(),
+            place,
+            &mut refused_at,
+            &mut kind,
+            &mut next,
+        )
+    };
+    accepted(number, refused_at, ())?;
+    Ok(Record {
+        kind,
+        payload: &bytes[place + 4..next],
+        next,
+    })
+}
