@@ -36,12 +36,13 @@ pub fn damage(random: &mut Random, bytes: &[u8], other: &[u8]) -> Vec<u8> {
 /// Damages a matrix record: in any way, or in one field of its first bytes, or in its number of bytes alone.
 pub fn damage_matrix(random: &mut Random, record: &[u8], other: &[u8]) -> Vec<u8> {
     let mut damaged = record.to_vec();
-    match random.between(0, 7) {
+    match random.between(0, 8) {
         0 | 1 => damaged = damage(random, record, other),
         2 => change(random, &mut damaged[..2], 1),
         3 => change(random, &mut damaged[2..4], 1),
         4 | 5 => change(random, &mut damaged[4..6], 1),
         6 => damaged.truncate(random.between(0, 7)),
+        7 => damaged.swap(4, 5),
         _ => {
             damaged.resize(random.between(6, 140), 0);
             let length = damaged.len() as u16;
@@ -60,13 +61,22 @@ fn change(random: &mut Random, bytes: &mut [u8], count: usize) {
         if bytes.is_empty() {
             return;
         }
-        let byte = &mut bytes[random.between(0, bytes.len() - 1)];
+        let byte = &mut bytes[place_in(random, bytes.len())];
         *byte = match way {
             0 => *byte ^ bit,
             1 => byte.wrapping_add(1),
             2 => byte.wrapping_sub(1),
             _ => any,
         };
+    }
+}
+
+/// A place among so many bytes, often near one of the ends: heads, totals and outputs are few bytes of a long netlist.
+fn place_in(random: &mut Random, count: usize) -> usize {
+    match random.between(0, 3) {
+        0 => random.between(0, count.min(12) - 1),
+        1 => count - random.between(1, count.min(12)),
+        _ => random.between(0, count - 1),
     }
 }
 

@@ -81,6 +81,7 @@ pub fn any_matrix(random: &mut Random, most_m: usize, most_n: usize) -> Matrix {
             filled(m, n, || coefficient)
         }
         4 => multiples(random, m, n),
+        6 => filled(m, n, || every_other_digit(random)),
         5 => {
             let few = [random.coefficient(bits), random.coefficient(bits), 0];
             filled(m, n, || random.choose(&few))
@@ -100,6 +101,12 @@ fn sparse(random: &mut Random, m: usize, n: usize, bits: u32) -> Matrix {
             0
         }
     })
+}
+
+/// Digits −1, 0 and 1 at even positions alone: many pairs of one symbol overlap.
+fn every_other_digit(random: &mut Random) -> i16 {
+    let digits = (0..8).map(|i| random.choose(&[-1, 0, 1, 1]) << (2 * i));
+    digits.sum()
 }
 
 /// Each row is the first one shifted, and perhaps negated.

@@ -1,21 +1,27 @@
 //! Going through seeds, and counting what was met.
 
+use std::ops::Range;
 use std::thread;
 
 use crate::random::Random;
 
-/// Calls `test` with a fresh source for each of `count` seeds from `first` on. A failure names its seed, and the environment
-/// variable SEED runs that one alone.
+/// Calls `test` with a fresh source for each of `count` seeds from `first` on. A failure names its seed. The environment
+/// variable SEED chooses others: one, or a range as 5000..6000.
 pub fn each(first: u64, count: u64, mut test: impl FnMut(&mut Random)) {
-    let chosen = std::env::var("SEED").ok();
-    let seeds = match chosen.map(|seed| seed.parse::<u64>().expect("SEED is a number")) {
-        Some(seed) => seed..seed + 1,
-        None => first..first + count,
-    };
-    for seed in seeds {
+    for seed in chosen().unwrap_or(first..first + count) {
         let _named = Named(seed);
         test(&mut Random::new(seed));
     }
+}
+
+/// The seeds that SEED chooses.
+fn chosen() -> Option<Range<u64>> {
+    let words = std::env::var("SEED").ok()?;
+    let number = |word: &str| word.parse::<u64>().expect("SEED is a number or a range");
+    Some(match words.split_once("..") {
+        Some((first, end)) => number(first)..number(end),
+        None => number(&words)..number(&words) + 1,
+    })
 }
 
 /// Names the seed where its case fails.
@@ -41,7 +47,7 @@ impl Met {
     /// Each of `numbers` was met at least so often, and no other was met.
     pub fn assert_exactly(&self, call: &str, numbers: &[u8], least: u64) {
         println!("{call}: {:?}", self.0);
-        if std::env::var("SEED").is_ok() {
+        if chosen().is_some() {
             return;
         }
         for (number, &count) in (0..).zip(&self.0) {
