@@ -38,6 +38,15 @@ extern "C" {
         netlist_length: usize,
         place: &mut usize,
     ) -> u8;
+    fn zaatarloft_run(
+        netlist: *const u8,
+        netlist_length: usize,
+        samples: *const u8,
+        samples_length: usize,
+        outputs: *mut u8,
+        outputs_length: usize,
+        place: &mut usize,
+    ) -> u8;
     fn zaatarloft_step(
         bytes: *const u8,
         bytes_length: usize,
@@ -208,6 +217,40 @@ pub fn check(matrix: &[u8], netlist: &[u8]) -> Result<(), Refusal> {
         )
     };
     accepted(number, place, ())
+}
+
+/// Runs a netlist on n samples and fills m outputs. Refusals 7 to 12, 15 and 16, which leave the outputs as they were.
+pub fn run(netlist: &[u8], samples: &[i16], outputs: &mut [i64]) -> Result<(), Refusal> {
+    // n and m are at most 8. More samples or outputs are refused like none, so none are lent then.
+    let mut sample_bytes = [0; 16];
+    let mut output_bytes = [0; 64];
+    let sample_bytes = sample_bytes
+        .get_mut(..2 * samples.len())
+        .unwrap_or_default();
+    let output_bytes = output_bytes
+        .get_mut(..8 * outputs.len())
+        .unwrap_or_default();
+    for (bytes, sample) in sample_bytes.chunks_exact_mut(2).zip(samples) {
+        bytes.copy_from_slice(&sample.to_le_bytes());
+    }
+    let mut place = 0;
+    // SAFETY: all three slices are valid for their lengths, the outputs for writes, and none of them overlaps another.
+    let number = unsafe {
+        zaatarloft_run(
+            netlist.as_ptr(),
+            netlist.len(),
+            sample_bytes.as_ptr(),
+            sample_bytes.len(),
+            output_bytes.as_mut_ptr(),
+            output_bytes.len(),
+            &mut place,
+        )
+    };
+    accepted(number, place, ())?;
+    for (output, bytes) in outputs.iter_mut().zip(output_bytes.chunks_exact(8)) {
+        *output = i64::from_le_bytes(bytes.try_into().expect("8 bytes each"));
+    }
+    Ok(())
 }
 
 /// The record at a place, for any bytes and any place. Refusals 7, and 8 for a length below 4.

@@ -1,12 +1,16 @@
-// Document 01's calls for hosts in C and Rust: over numbers and byte slices alone. Rests on compiler, checker and layout.
+// Document 01's five calls for hosts in C and Rust, over numbers and byte slices alone. Rests on compiler, checker, samples and layout.
+// Each function returns the refusal's number, 0 where it accepts, and writes the other numbers of the answer through the references.
+mod outputs; // outputs.rt: run, with samples and outputs as bytes
+
 ghost use mathlib.Core.Path.{_≡_};
 ghost use lib.ListN.{length};
 ghost use Rattle.compiler.specs.Compile.{compileAnswer, compileBuffer};
 ghost use Rattle.checker.specs.Read.{readAnswer};
 ghost use Rattle.checker.specs.Check.{checkAnswer};
+ghost use Rattle.checker.specs.Run.{runAnswer};
+ghost use Rattle.samples.specs.Samples.{samplesOf};
+ghost use Rattle.ffi.specs.OutputBytes.{outputCount, runBytes};
 ghost use Rattle.layout.specs.Step.{stepNumbers};
-
-// Each function returns the refusal's number, 0 where it accepts, and writes the other numbers of the answer through the references.
 
 // Compile: from a matrix record to its netlist, at the start of the lent buffer.
 #[no_mangle]
@@ -62,6 +66,22 @@ pub extern "C" fn zaatarloft_check(matrix: &[u8], netlist: &[u8], place: &mut us
     ensures { λ r. ⌜ record { refusal = r; place = now (place .exit) } ≡ checkAnswer (now (matrix .entry)) (now (netlist .entry)) ⌝ }
 {
     let answer = checker::check::check(matrix, netlist);
+    *place = answer.place;
+    answer.refusal
+}
+
+// Run: a netlist on samples of 2 bytes each, into outputs of 8 bytes each, both little-endian two's complement.
+#[no_mangle]
+pub extern "C" fn zaatarloft_run(
+    netlist: &[u8],
+    samples: &[u8],
+    outputs: &mut [u8],
+    place: &mut usize,
+) -> u8
+    ensures { λ r. ⌜ record { refusal = r; place = now (place .exit) } ≡ runAnswer (now (netlist .entry)) (length (samplesOf (now (samples .entry)))) (outputCount (now (outputs .entry))) ⌝ }
+    ensures { λ _. ⌜ now (outputs .exit) ≡ runBytes (now (netlist .entry)) (samplesOf (now (samples .entry))) (now (outputs .entry)) ⌝ }
+{
+    let answer = outputs::run_to_bytes(netlist, samples, outputs);
     *place = answer.place;
     answer.refusal
 }

@@ -36,13 +36,13 @@ pub fn output_value(sign: u8, z: i64, shift: u8) -> i64
     }
 }
 
-fn positive_part(c: i64) -> u64
+pub fn positive_part(c: i64) -> u64
     ensures { λ r. ⌜ r ≡ positivePart c ⌝ }
 {
     if c < 0 { 0 } else { c as u64 }
 }
 
-fn negative_part(c: i64) -> u64
+pub fn negative_part(c: i64) -> u64
     ensures { λ r. ⌜ r ≡ negativePart c ⌝ }
 {
     if c < 0 { (-1 - c) as u64 + 1 } else { 0 }

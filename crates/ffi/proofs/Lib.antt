@@ -1,0 +1,3 @@
+-- Laws of outputs as bytes, lowest first.
+pub mod OutputBytes
+pub mod RunBytes

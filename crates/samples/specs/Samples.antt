@@ -1,0 +1,31 @@
+-- A vector of 16-bit samples as bytes: 2 bytes each, little-endian two's complement, as document 01's "Matrix record" has coefficients.
+-- Assumes nothing.
+use Prim.Native.Nat.{ℕ, _*_, _/_, _%_, _≤_, _<_}
+use mathlib.Core.Path.{_≡_}
+use mathlib.Core.Bool.{cond}
+use mathlib.Core.Logic.{_⊎_}
+use mathlib.Core.List.{List, []}
+use lib.Dec.{eqb}
+use lib.IntN.{ℤ}
+use lib.ListN.{length}
+use Rattle.layout.specs.Bytes.{word}
+use Rattle.layout.specs.Matrix.{signedWord}
+use Rattle.checker.specs.Tests.{firstRecords}
+
+-- the sample of an index
+abbrev pub sampleAt : List ℕ → ℕ → ℤ
+sampleAt bytes index = signedWord (word bytes (2 * index))
+
+-- the first k samples
+abbrev pub firstSamples : List ℕ → ℕ → List ℤ
+firstSamples bytes k = firstRecords (sampleAt bytes) k
+
+-- all samples; an odd number of bytes is no vector and holds none
+unfoldable pub samplesOf : List ℕ → List ℤ
+samplesOf bytes = cond (eqb (length bytes % 2) 0) (firstSamples bytes (length bytes / 2)) []
+
+-- so many of them are lent to run: all, or none where they are more than 8
+pub record Lent (bytes : List ℕ) (count : ℕ) : Type 0 where
+  pub few : count ≤ 8
+  pub there : 2 * count ≤ length bytes
+  pub all-or-none : (firstSamples bytes count ≡ samplesOf bytes) ⊎ ((count ≡ 0) × (8 < length (samplesOf bytes)))
