@@ -26,11 +26,6 @@ complement-negative (negsuc k) some fits = omega arith
 
 -- ---- bytes one after another
 
-pub length-low : (k x : ℕ) → length (lowBytes k x) ≡ k
-unfolding lowBytes
-length-low zero x = refl
-length-low (suc k) x = ap suc (length-low k _)
-
 -- byte k of a number, and what is left behind it
 pub byte-next : (l : List ℕ) (place k x : ℕ) → k < 8
     → sets (set l (place + k) (x % 256)) (place + suc k) (lowBytes (8 - suc k) (x / 256)) ≡ sets l (place + k) (lowBytes (8 - k) x)
@@ -43,6 +38,11 @@ byte-next l place k x h =
 pub bytes-done : (l : List ℕ) (place k x : ℕ) → k ≡ 8 → sets l (place + k) (lowBytes (8 - k) x) ≡ l
 unfolding lowBytes
 bytes-done l place k x e = rw e refl
+
+pub length-low : (k x : ℕ) → length (lowBytes k x) ≡ k
+unfolding lowBytes
+length-low zero x = refl
+length-low (suc k) x = ap suc (length-low k _)
 
 pub length-outputs : (ys : List ℤ) → length (flatMap integerBytes ys) ≡ 8 * length ys
 length-outputs ys = length-records integerBytes 8 (λ y. length-low 8 (twosComplement y)) ys

@@ -28,15 +28,15 @@ pub extern "C" fn zaatarloft_compile(
     ensures { λ r. ⌜ record { refusal = r; place = now (place .exit); written = now (written .exit); operations = now (operations .exit); plain = now (plain .exit); divisors = now (divisors .exit); replacements = now (replacements .exit); depth = now (depth .exit) } ≡ compileAnswer (now (matrix .entry)) (length (now (buffer .entry))) ⌝ }
     ensures { λ _. ⌜ now (buffer .exit) ≡ compileBuffer (now (matrix .entry)) (now (buffer .entry)) ⌝ }
 {
-    let answer = compiler::compile(matrix, buffer);
-    *place = answer.place;
-    *written = answer.written;
-    *operations = answer.operations;
-    *plain = answer.plain;
-    *divisors = answer.divisors;
-    *replacements = answer.replacements;
-    *depth = answer.depth;
-    answer.refusal
+    let compiled = compiler::compile(matrix, buffer);
+    *place = compiled.place;
+    *written = compiled.written;
+    *operations = compiled.operations;
+    *plain = compiled.plain;
+    *divisors = compiled.divisors;
+    *replacements = compiled.replacements;
+    *depth = compiled.depth;
+    compiled.refusal
 }
 
 // Read: m, n, operations and depth of a netlist.
@@ -51,13 +51,13 @@ pub extern "C" fn zaatarloft_read(
 ) -> u8
     ensures { λ r. ⌜ record { refusal = r; place = now (place .exit); m = now (m .exit); n = now (n .exit); operations = now (operations .exit); depth = now (depth .exit) } ≡ readAnswer (now (netlist .entry)) ⌝ }
 {
-    let answer = checker::read::read(netlist);
-    *place = answer.place;
-    *m = answer.m;
-    *n = answer.n;
-    *operations = answer.operations;
-    *depth = answer.depth;
-    answer.refusal
+    let reading = checker::read::read(netlist);
+    *place = reading.place;
+    *m = reading.m;
+    *n = reading.n;
+    *operations = reading.operations;
+    *depth = reading.depth;
+    reading.refusal
 }
 
 // Check: whether a netlist computes a matrix.
@@ -65,9 +65,9 @@ pub extern "C" fn zaatarloft_read(
 pub extern "C" fn zaatarloft_check(matrix: &[u8], netlist: &[u8], place: &mut usize) -> u8
     ensures { λ r. ⌜ record { refusal = r; place = now (place .exit) } ≡ checkAnswer (now (matrix .entry)) (now (netlist .entry)) ⌝ }
 {
-    let answer = checker::check::check(matrix, netlist);
-    *place = answer.place;
-    answer.refusal
+    let checked = checker::check::check(matrix, netlist);
+    *place = checked.place;
+    checked.refusal
 }
 
 // Run: a netlist on samples of 2 bytes each, into outputs of 8 bytes each, both little-endian two's complement.
@@ -81,9 +81,9 @@ pub extern "C" fn zaatarloft_run(
     ensures { λ r. ⌜ record { refusal = r; place = now (place .exit) } ≡ runAnswer (now (netlist .entry)) (length (samplesOf (now (samples .entry)))) (outputCount (now (outputs .entry))) ⌝ }
     ensures { λ _. ⌜ now (outputs .exit) ≡ runBytes (now (netlist .entry)) (samplesOf (now (samples .entry))) (now (outputs .entry)) ⌝ }
 {
-    let answer = outputs::run_to_bytes(netlist, samples, outputs);
-    *place = answer.place;
-    answer.refusal
+    let ran = outputs::run_to_bytes(netlist, samples, outputs);
+    *place = ran.place;
+    ran.refusal
 }
 
 // Step: the numbers of the step over the record at a place. An accepted record's payload starts 4 bytes behind that place and ends at the next.
