@@ -6,4 +6,5 @@
 mod both;
 mod compile;
 mod netlists;
+mod raw;
 mod records;
