@@ -2,6 +2,17 @@
 //!
 //! A matrix record goes in as bytes, a netlist of additions, subtractions and shifts comes out as bytes. The calls are proved;
 //! these wrappers are not. Each returns what document 01 says, or the refusal with its number and place.
+//!
+//! ```
+//! let matrix = [0x0A, 0, 1, 0, 1, 2, 3, 0, 0xFD, 0xFF]; // row 3, −3
+//! let mut buffer = [0; 6136];
+//! let compiled = zaatarloft::compile(&matrix, &mut buffer)?;
+//! assert_eq!((compiled.operations, compiled.depth), (2, 2));
+//! let mut outputs = [0];
+//! zaatarloft::run(&buffer[..compiled.written], &[32_767, -32_768], &mut outputs)?;
+//! assert_eq!(outputs, [196_605]);
+//! # Ok::<(), zaatarloft::Refusal>(())
+//! ```
 
 use std::error::Error;
 use std::fmt;

@@ -23,18 +23,18 @@ use Rattle.layout.specs.Matrix.{matrixRefusal, matrix, rows, columns, outside}
 use Rattle.layout.specs.Records.{Netlist}
 use Rattle.layout.proofs.MatrixRefusal.{AcceptedMatrix, accepted-matrix, none}
 use Rattle.width.specs.Width.{Samples}
-use Rattle.compiler.specs.declared.CompileAnswer.{CompileAnswer}
-use Rattle.compiler.specs.Compile.{eliminationOf, netlistOf, compiledNetlist, compiledBytes, compileAccepted, compileAnswer, compileBuffer}
-use Rattle.compiler.specs.Compiled.{CompiledNetlist, CompiledOperation, CompiledOutput, AcceptedAnswer}
-use Rattle.compiler.proofs.Limits.{rows-columns, accepted-within}
-use Rattle.compiler.proofs.Compiled.{compiled-times, compiled-is, compiled-answer, compiled-length, answer-accepted, buffer-accepted}
-use Rattle.checker.specs.declared.ReadAnswer.{ReadAnswer}
-use Rattle.checker.specs.declared.RunAnswer.{RunAnswer}
-use Rattle.checker.specs.Read.{readAccepted, readAnswer}
-use Rattle.checker.specs.Run.{ran, runAnswer, runOutputs, netlistOutputs}
-use Rattle.checker.specs.Exact.{IsOperation, IsOutput, IsNetlist, IsNetlistBytes}
-use Rattle.checker.proofs.ReadAccepts.{reading-of, read-answer}
-use Rattle.checker.proofs.RunLaws.{run-fills}
+use Rattle.compilation.specs.declared.CompileAnswer.{CompileAnswer}
+use Rattle.compilation.specs.Compile.{eliminationOf, netlistOf, compiledNetlist, compiledBytes, compileAccepted, compileAnswer, compileBuffer}
+use Rattle.compilation.specs.Compiled.{CompiledNetlist, CompiledOperation, CompiledOutput, AcceptedAnswer}
+use Rattle.compilation.proofs.Limits.{rows-columns, accepted-within}
+use Rattle.compilation.proofs.Compiled.{compiled-times, compiled-is, compiled-answer, compiled-length, answer-accepted, buffer-accepted}
+use Rattle.reading.specs.declared.ReadAnswer.{ReadAnswer}
+use Rattle.reading.specs.declared.RunAnswer.{RunAnswer}
+use Rattle.reading.specs.Read.{readAccepted, readAnswer}
+use Rattle.reading.specs.Run.{ran, runAnswer, runOutputs, netlistOutputs}
+use Rattle.reading.specs.Exact.{IsOperation, IsOutput, IsNetlist, IsNetlistBytes}
+use Rattle.reading.proofs.ReadAccepts.{reading-of, read-answer}
+use Rattle.reading.proofs.RunLaws.{run-fills}
 use Rattle.bank.specs.declared.Answers.{Answers}
 use Rattle.bank.specs.Claim.{MatrixWithinLimits, Given, bytesWritten, Overlap, Claim, answersOf, outputsAfter, Demand}
 

@@ -11,8 +11,8 @@ use Rattle.layout.specs.Matrix.{matrix, rowsFrom, coefficientsFrom, coefficient
 use Rattle.width.specs.Machine.{times, largest}
 use Rattle.width.specs.Width.{Within}
 use Rattle.width.proofs.WidthLaws.{positive-is, negative-is, between-within}
-use Rattle.compiler.specs.Marked.{threeMinusThree}
-use Rattle.compiler.proofs.Marked.{marked-banks}
+use Rattle.compilation.specs.Marked.{threeMinusThree}
+use Rattle.compilation.proofs.Marked.{marked-banks}
 use Rattle.bank.specs.Claim.{Given, outputsAfter}
 use Rattle.bank.proofs.Claim.{claim-holds}
 

@@ -9,9 +9,9 @@ use lib.Dec.{ltb}
 use lib.ListN.{length, drop, length-append}
 use borrow.Author.Tests.{ltb-true, ltb-false}
 use Rattle.layout.specs.Matrix.{matrixRefusal}
-use Rattle.compiler.specs.declared.CompileAnswer.{CompileAnswer}
-use Rattle.compiler.specs.Compile.{compiledBytes, compileAnswer, compileBuffer}
-use Rattle.compiler.proofs.Compiled.{answer-refused, answer-short, answer-accepted, buffer-accepted}
+use Rattle.compilation.specs.declared.CompileAnswer.{CompileAnswer}
+use Rattle.compilation.specs.Compile.{compiledBytes, compileAnswer, compileBuffer}
+use Rattle.compilation.proofs.Compiled.{answer-refused, answer-short, answer-accepted, buffer-accepted}
 
 pub written-within : (matrixBytes buffer : List ℕ) → compileAnswer matrixBytes (length buffer) .written ≤ length (compileBuffer matrixBytes buffer)
 written-within matrixBytes buffer = by-refusal (matrixRefusal matrixBytes) refl

@@ -19,11 +19,11 @@ use Rattle.layout.specs.Matrix.{rows, columns, matrix}
 use Rattle.layout.specs.Records.{Netlist}
 use Rattle.width.specs.Machine.{machine, entryAt, outputValue, times}
 use Rattle.width.specs.Width.{Within, Samples}
-use Rattle.compiler.specs.declared.CompileAnswer.{CompileAnswer}
-use Rattle.compiler.specs.Compile.{operationsOf, outputsOf, withWidths, outputWithWidth, compiledBytes, compileAnswer, compileBuffer}
-use Rattle.checker.specs.Read.{accepted, readNetlist, readAnswer}
-use Rattle.checker.specs.Run.{runAnswer, runOutputs}
-use Rattle.checker.specs.Exact.{IsNetlistBytes}
+use Rattle.compilation.specs.declared.CompileAnswer.{CompileAnswer}
+use Rattle.compilation.specs.Compile.{operationsOf, outputsOf, withWidths, outputWithWidth, compiledBytes, compileAnswer, compileBuffer}
+use Rattle.reading.specs.Read.{accepted, readNetlist, readAnswer}
+use Rattle.reading.specs.Run.{runAnswer, runOutputs}
+use Rattle.reading.specs.Exact.{IsNetlistBytes}
 use Rattle.bank.specs.declared.Answers.{Answers}
 
 -- ---- what is given

@@ -1,9 +1,9 @@
 // Demand 3: one claim about compile, read and run together. Rests on compiler and checker, which are joined here by their contracts alone.
-use checker::ReadAnswer;
-use checker::RunAnswer;
-use compiler::CompileAnswer;
+use compilation::CompileAnswer;
+use reading::ReadAnswer;
+use reading::RunAnswer;
 ghost use mathlib.Core.Path.{_≡_};
-ghost use Rattle.compiler.specs.Compile.{compileBuffer};
+ghost use Rattle.compilation.specs.Compile.{compileBuffer};
 ghost use Rattle.bank.specs.Claim.{Given, Claim, answersOf, outputsAfter};
 
 // What the three calls return, each lent what the one before it wrote.

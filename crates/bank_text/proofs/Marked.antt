@@ -7,9 +7,9 @@ use Rattle.elimination.specs.Elimination.{matrixElimination}
 use Rattle.layout.specs.Matrix.{matrixRefusal, matrix, rowsFrom, coefficientsFrom, coefficientAt, signedWord}
 use Rattle.width.specs.Machine.{entryForm, outputForm, depth}
 use Rattle.width.specs.Width.{width}
-use Rattle.compiler.specs.Chains.{signOf, chainFrom, chain, chains, rowOutput, rowOutputs}
-use Rattle.compiler.specs.Compile.{operationsOf, outputsOf, withWidths, netlistOf}
-use Rattle.compiler.proofs.Marked.{marked-banks}
+use Rattle.compilation.specs.Chains.{signOf, chainFrom, chain, chains, rowOutput, rowOutputs}
+use Rattle.compilation.specs.Compile.{operationsOf, outputsOf, withWidths, netlistOf}
+use Rattle.compilation.proofs.Marked.{marked-banks}
 use Rattle.listing.specs.Decimal.{decimal, number}
 use Rattle.listing.specs.Listing.{countsLine, operationLine, valueText, lines}
 use Rattle.listing.proofs.Marked.{marked}

@@ -9,9 +9,9 @@ use lib.ListN.{length, getD, drop, length-append}
 use Rattle.layout.specs.Matrix.{matrixRefusal, rows, columns}
 use Rattle.layout.proofs.LittleEndian.{AreBytes}
 use Rattle.layout.proofs.MatrixRefusal.{AcceptedMatrix, accepted-matrix}
-use Rattle.compiler.specs.declared.CompileAnswer.{CompileAnswer}
-use Rattle.compiler.specs.Compile.{netlistOf, compileAnswer, compileBuffer, compileRefused, compileAccepted, compiledBytes, compiledNetlist}
-use Rattle.compiler.proofs.Compiled.{answer-refused, enough-room, buffer-accepted, compiled-answer, compiled-is, compiled-length, compiled-operations}
+use Rattle.compilation.specs.declared.CompileAnswer.{CompileAnswer}
+use Rattle.compilation.specs.Compile.{netlistOf, compileAnswer, compileBuffer, compileRefused, compileAccepted, compiledBytes, compiledNetlist}
+use Rattle.compilation.proofs.Compiled.{answer-refused, enough-room, buffer-accepted, compiled-answer, compiled-is, compiled-length, compiled-operations}
 use Rattle.listing.specs.declared.Counts.{Counts}
 use Rattle.listing.specs.Listing.{listing, refusedLine}
 use Rattle.listing.specs.Records.{listingOf}

@@ -5,7 +5,7 @@ use mathlib.Core.Bool.{true, false}
 use mathlib.Core.List.{List, []}
 use lib.Dec.{ltb}
 use Rattle.layout.specs.Matrix.{matrixRefusal, rows, columns}
-use Rattle.compiler.specs.Compile.{compileAccepted, compiledNetlist}
+use Rattle.compilation.specs.Compile.{compileAccepted, compiledNetlist}
 use Rattle.listing.specs.declared.Counts.{Counts}
 use Rattle.listing.specs.Listing.{listing, refusedLine}
 

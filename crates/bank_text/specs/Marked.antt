@@ -3,7 +3,7 @@
 use mathlib.Core.Path.{_≡_}
 use mathlib.Core.List.{List, [], _∷_}
 use Prim.Native.Nat.{ℕ}
-use Rattle.compiler.specs.Marked.{MarkedBanks}
+use Rattle.compilation.specs.Marked.{MarkedBanks}
 use Rattle.listing.specs.Listing.{ascii}
 use Rattle.listing.specs.Marked.{MarkedListing}
 use Rattle.bank_text.specs.BankText.{bankText}

@@ -20,13 +20,13 @@ use Rattle.width.proofs.FormLaws.{entry-form-keeps}
 use Rattle.width.proofs.WidthLaws.{between-within, positive-is, negative-is}
 use Rattle.width.proofs.BoundLaws.{entry-small}
 use Rattle.width.proofs.TableLaws.{value-appended}
-use Rattle.checker.specs.declared.ReadAnswer.{ReadAnswer}
-use Rattle.checker.specs.declared.RunAnswer.{RunAnswer}
-use Rattle.checker.specs.Read.{Reading, refused, accepted, readNetlist, answerOf, readAnswer, headAt, operationAt, outputAt}
-use Rattle.checker.specs.Run.{ran, countsAnswer, runAnswer, netlistOutputs, runOutputs}
-use Rattle.checker.specs.Tests.{firstRecords, operationsIn, outputsIn}
+use Rattle.reading.specs.declared.ReadAnswer.{ReadAnswer}
+use Rattle.reading.specs.declared.RunAnswer.{RunAnswer}
+use Rattle.reading.specs.Read.{Reading, refused, accepted, readNetlist, answerOf, readAnswer, headAt, operationAt, outputAt}
+use Rattle.reading.specs.Run.{ran, countsAnswer, runAnswer, netlistOutputs, runOutputs}
+use Rattle.reading.specs.Tests.{firstRecords, operationsIn, outputsIn}
 use Rattle.checker.specs.Tables.{operationsBefore, NetlistRead}
-use Rattle.checker.proofs.FirstRecords.{length-first, getD-first}
+use Rattle.reading.proofs.FirstRecords.{length-first, getD-first}
 use Rattle.checker.proofs.NetlistLaws.{head-limits, operation-there, output-there}
 
 -- ---- a 16-bit sample lies within 16 bits

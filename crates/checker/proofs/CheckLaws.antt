@@ -18,13 +18,13 @@ use Rattle.width.specs.Machine.{outputForm}
 use Rattle.layout.proofs.MatrixRefusal.{AcceptedMatrix}
 use Rattle.layout.proofs.MatrixRows.{matrix-row, coefficient-there}
 use Rattle.width.specs.Table.{columnsFrom, outputRow}
-use Rattle.checker.specs.declared.CheckAnswer.{CheckAnswer}
-use Rattle.checker.specs.declared.ReadAnswer.{ReadAnswer}
-use Rattle.checker.specs.Read.{Reading, refused, accepted, readNetlist, answerOf, readAnswer, headAt, operationAt, outputAt}
-use Rattle.checker.specs.Check.{checked, sameInteger, sameRow, rowsAnswer, matchAnswer, checkAnswer}
-use Rattle.checker.specs.Tests.{operationsIn, outputsIn}
+use Rattle.reading.specs.declared.CheckAnswer.{CheckAnswer}
+use Rattle.reading.specs.declared.ReadAnswer.{ReadAnswer}
+use Rattle.reading.specs.Read.{Reading, refused, accepted, readNetlist, answerOf, readAnswer, headAt, operationAt, outputAt}
+use Rattle.reading.specs.Check.{checked, sameInteger, sameRow, rowsAnswer, matchAnswer, checkAnswer}
+use Rattle.reading.specs.Tests.{operationsIn, outputsIn}
 use Rattle.checker.specs.Tables.{NetlistHeld, RowReady}
-use Rattle.checker.proofs.FirstRecords.{length-first, getD-first}
+use Rattle.reading.proofs.FirstRecords.{length-first, getD-first}
 use Rattle.checker.proofs.HeldLaws.{output-row-held, output-coefficient-small}
 use Rattle.checker.proofs.NetlistLaws.{output-there}
 

@@ -6,37 +6,22 @@ use mathlib.Core.List.{List, [], _∷_, _++_}
 use native.Mathlib.Omega.{arith}
 use native.Mathlib.Decide.{decLt}
 use lib.IntN.{ℤ}
-use lib.ListN.{length, getD, set, take, replicate, length-append, length-set, length-replicate}
+use lib.ListN.{length, getD, set, take, replicate, length-append, length-set}
 use lib.Seq.{getD-take, take-suc}
 use Rattle.layout.specs.declared.Operation.{Operation}
 use Rattle.layout.specs.declared.Output.{Output}
 use Rattle.width.specs.Machine.{entryForm, outputForm, operationDepth, depths, largest, depth}
 use Rattle.width.specs.Width.{width}
-use Rattle.width.specs.Table.{Small, coefficientAt, row, outputRow, formAppended, formsStarted, HoldsForms, SmallForms, SmallRange}
+use Rattle.width.specs.Table.{filled, Small, coefficientAt, row, outputRow, formAppended, formsStarted, HoldsForms, SmallForms, SmallRange}
 use Rattle.width.proofs.FormLaws.{entry-form-keeps}
 use Rattle.width.proofs.DepthLaws.{depths-at-most, largest-snoc}
-use Rattle.width.proofs.TableLaws.{started-holds, row-is, output-row-is, appended-holds, depth-appended}
+use Rattle.width.proofs.TableLaws.{length-filled, take-filled, started-holds, row-is, output-row-is, appended-holds, depth-appended}
 use Rattle.width.proofs.BoundLaws.{sample-width, forms-small, appended-range-small, output-row-range-small}
-use Rattle.checker.specs.Read.{operationAt, operationWidth, outputWidth}
-use Rattle.checker.specs.Exact.{OperationLimits, OutputLimits}
-use Rattle.checker.specs.Tests.{firstRecords}
-use Rattle.checker.specs.Tables.{filled, operationsBefore, FormsHeld, DepthsHeld}
-use Rattle.checker.proofs.FirstRecords.{length-first}
-
--- ---- tables that were just made
-
-pub length-filled : {A : Type 0} (k : ℕ) (x : A) → length (filled k x) ≡ k
-unfolding filled
-length-filled k x = length-replicate k x
-
-take-replicate : {A : Type 0} (n k : ℕ) (x : A) → n ≤ k → take n (replicate k x) ≡ replicate n x
-take-replicate zero k x l = refl
-take-replicate (suc n) zero x l = absurd (omega arith)
-take-replicate (suc n) (suc k) x l = ap (λ r. x ∷ r) (take-replicate n k x (omega arith))
-
-take-filled : {A : Type 0} (n k : ℕ) (x : A) → n ≤ k → take n (filled k x) ≡ replicate n x
-unfolding filled
-take-filled n k x l = take-replicate n k x l
+use Rattle.reading.specs.Read.{operationAt, operationWidth, outputWidth}
+use Rattle.reading.specs.Exact.{OperationLimits, OutputLimits}
+use Rattle.reading.specs.Tests.{firstRecords}
+use Rattle.checker.specs.Tables.{operationsBefore, FormsHeld, DepthsHeld}
+use Rattle.reading.proofs.FirstRecords.{length-first}
 
 -- ---- no operation yet
 
@@ -52,7 +37,7 @@ module _ (b : List ℕ) (n : ℕ) (l : n ≤ 8) where
   unfolding firstRecords depths
   depths-started table e =
       let z : n + 0 ≡ n = omega arith in
-      record { room = ap length e ∙ length-filled 512 0; held = rw (z, e) (take-filled n 512 0 (omega arith)) }
+      record { room = ap length e ∙ length-filled 0 512; held = rw (z, e) (take-filled 0 n 512 (omega arith)) }
 
 -- ---- coefficients
 

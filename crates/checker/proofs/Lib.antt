@@ -1,14 +1,4 @@
--- Theorems about reading, checking and running a netlist, lowest first.
-pub mod FirstRecords
-pub mod TestLaws
-pub mod Conditions
-pub mod ReadTests
-pub mod ReadAccepts
-pub mod NetlistBytes
-pub mod Coefficients
-pub mod CheckTests
-pub mod CheckAccepts
-pub mod RunLaws
+-- Laws about the parts of read, check and run and the tables lent to them, lowest first.
 pub mod RecordLaws
 pub mod HeldLaws
 pub mod NetlistLaws

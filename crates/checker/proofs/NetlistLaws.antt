@@ -11,11 +11,11 @@ use Rattle.layout.specs.declared.Head.{Head}
 use Rattle.layout.specs.declared.Totals.{Totals}
 use Rattle.layout.specs.Records.{Netlist}
 use Rattle.checker.specs.declared.read.Refusal.{Refusal}
-use Rattle.checker.specs.Read.{Reading, refused, accepted, recordRefusal, headAt, headRefusal, operationPlace, operationAt, operationRefusal, outputPlace, outputAt, outputRefusal, totalsAt, totalsRefusal, readOperations, readOutputs, leftoverRefusal, readNetlist, readRefused, readAccepted, answerOf, readAnswer}
-use Rattle.checker.specs.Exact.{HeadLimits, OperationLimits, OutputLimits}
-use Rattle.checker.specs.Tests.{firstRecords, operationsIn, outputsIn, totalsPlace, netlistIn}
+use Rattle.reading.specs.Read.{Reading, refused, accepted, recordRefusal, headAt, headRefusal, operationPlace, operationAt, operationRefusal, outputPlace, outputAt, outputRefusal, totalsAt, totalsRefusal, readOperations, readOutputs, leftoverRefusal, readNetlist, readRefused, readAccepted, answerOf, readAnswer}
+use Rattle.reading.specs.Exact.{HeadLimits, OperationLimits, OutputLimits}
+use Rattle.reading.specs.Tests.{firstRecords, operationsIn, outputsIn, totalsPlace, netlistIn}
 use Rattle.checker.specs.Tables.{refusalOf, NetlistRead}
-use Rattle.checker.proofs.FirstRecords.{length-first}
+use Rattle.reading.proofs.FirstRecords.{length-first}
 use Rattle.checker.proofs.RecordLaws.{head-due, operation-due, output-due, none-refused}
 
 -- ---- which part is refused

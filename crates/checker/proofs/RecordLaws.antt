@@ -17,14 +17,14 @@ use Rattle.layout.specs.Bytes.{word}
 use Rattle.layout.specs.Step.{stepRefusal, stepNumbers, payloadAt}
 use Rattle.layout.proofs.Accepted.{not-refused, payload-accepted, numbers-refused, numbers-accepted}
 use Rattle.checker.specs.declared.read.Refusal.{Refusal}
-use Rattle.checker.specs.Read.{Reading, refused, accepted, readRecords, recordRefusal, headAt, headInRange, headRefusal, operationPlace, operationAt, operationInRange, operationWidth, operationRefusal, outputPlace, outputAt, outputInRange, outputWidth, outputRefusal, totalsAt, totalsRight, totalsRefusal, widthRight}
-use Rattle.checker.specs.Exact.{HeadLimits, OperationLimits, OutputLimits, TotalsRight}
-use Rattle.checker.specs.Tests.{Whole, Expected, recordTests, firstRecords}
+use Rattle.reading.specs.Read.{Reading, refused, accepted, readRecords, recordRefusal, headAt, headInRange, headRefusal, operationPlace, operationAt, operationInRange, operationWidth, operationRefusal, outputPlace, outputAt, outputInRange, outputWidth, outputRefusal, totalsAt, totalsRight, totalsRefusal, widthRight}
+use Rattle.reading.specs.Exact.{HeadLimits, OperationLimits, OutputLimits, TotalsRight}
+use Rattle.reading.specs.Tests.{Whole, Expected, recordTests, firstRecords}
 use Rattle.checker.specs.Tables.{operationsBefore, refusalOf}
-use Rattle.checker.proofs.TestLaws.{RefusedBy}
-use Rattle.checker.proofs.FirstRecords.{length-first}
-use Rattle.checker.proofs.Conditions.{and-says, same-says, at-most-says, head-says, operation-says, output-says, totals-says}
-use Rattle.checker.proofs.ReadTests.{record-refused}
+use Rattle.reading.proofs.TestLaws.{RefusedBy, read-more, read-stops}
+use Rattle.reading.proofs.FirstRecords.{length-first}
+use Rattle.reading.proofs.Conditions.{and-says, same-says, at-most-says, head-says, operation-says, output-says, totals-says}
+use Rattle.reading.proofs.ReadTests.{record-refused}
 
 -- ---- tests
 
@@ -268,19 +268,16 @@ module _ {A : Type 0} (refusal : List A → ℕ) (place : ℕ → ℕ) (fields :
   -- of those that are left, the next one is refused
   pub records-stop : (count k : ℕ) → k < count → (refusal (firstRecords fields k) ≡ 0 → ⊥)
       → readRecords refusal place fields (count - k) (firstRecords fields k) ≡ refused (refusal (firstRecords fields k)) (place k)
-  unfolding readRecords
-  records-stop count k l h = let less : count - k ≡ suc (count - suc k) = omega arith in rw less (go (refusal (firstRecords fields k)) refl)
-    where
-      go : (r : ℕ) → refusal (firstRecords fields k) ≡ r
-          → readRecords refusal place fields (suc (count - suc k)) (firstRecords fields k) ≡ refused (refusal (firstRecords fields k)) (place k)
-      go zero e = absurd (h e)
-      go (suc r) e = rw (e, length-first fields k) refl
+  records-stop count k l h =
+      let less : count - k ≡ suc (count - suc k) = omega arith in
+      rw less (read-stops refusal place fields (count - suc k) k (omega (arith, h)))
 
   -- or is read
   pub records-next : (count k : ℕ) → k < count → refusal (firstRecords fields k) ≡ 0
       → readRecords refusal place fields (count - k) (firstRecords fields k) ≡ readRecords refusal place fields (count - suc k) (firstRecords fields (suc k))
-  unfolding readRecords firstRecords
-  records-next count k l e = let less : count - k ≡ suc (count - suc k) = omega arith in rw (less, e, length-first fields k) refl
+  records-next count k l e =
+      let less : count - k ≡ suc (count - suc k) = omega arith in
+      rw less (read-more refusal place fields (count - suc k) k e)
 
   -- or none is left
   pub records-end : (count k : ℕ) → count ≤ k → readRecords refusal place fields (count - k) (firstRecords fields k) ≡ accepted (firstRecords fields k)

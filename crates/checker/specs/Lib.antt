@@ -1,6 +1,1 @@
-pub mod Read
-pub mod Check
-pub mod Run
-pub mod Exact
-pub mod Tests
 pub mod Tables

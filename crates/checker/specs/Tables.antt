@@ -13,14 +13,10 @@ use Rattle.width.specs.Machine.{entryAt, entryForm, depths}
 use Rattle.width.specs.Width.{Samples, width}
 use Rattle.width.specs.Table.{HoldsForms, Small, coefficientAt}
 use Rattle.checker.specs.declared.read.Refusal.{Refusal}
-use Rattle.checker.specs.Read.{Reading, refused, accepted, sampleWidth, maxWidth, maxShift, headAt, headRefusal, operationAt, operationRefusal, outputAt, totalsRefusal, readOperations, readOutputs, readNetlist}
-use Rattle.checker.specs.declared.CheckAnswer.{CheckAnswer}
-use Rattle.checker.specs.Check.{rowsAnswer}
-use Rattle.checker.specs.Tests.{firstRecords, operationsIn, outputsIn, totalsPlace, netlistIn}
-
--- a table of k places that all hold x
-unfoldable pub filled : {A : Type 0} → ℕ → A → List A
-filled k x = replicate k x
+use Rattle.reading.specs.Read.{Reading, refused, accepted, sampleWidth, maxWidth, maxShift, headAt, headRefusal, operationAt, operationRefusal, outputAt, totalsRefusal, readOperations, readOutputs, readNetlist}
+use Rattle.reading.specs.declared.CheckAnswer.{CheckAnswer}
+use Rattle.reading.specs.Check.{rowsAnswer}
+use Rattle.reading.specs.Tests.{firstRecords, operationsIn, outputsIn, totalsPlace, netlistIn}
 
 -- the first k operations in the bytes
 abbrev pub operationsBefore : List ℕ → ℕ → List Operation

@@ -1,13 +1,13 @@
 // Document 01, "Reading, checking, running" and "Why a record was declined": checking a netlist against a matrix, refusals 1 to 5,
 // 7 to 12, 13, 14.
-use super::CheckAnswer;
 use layout::Output;
+use reading::CheckAnswer;
 ghost use mathlib.Core.Path.{_≡_};
 ghost use Prim.Native.Nat.{_≤_, _<_};
 ghost use Rattle.layout.specs.Matrix.{matrixRefusal, coefficientsFrom};
 ghost use Rattle.width.specs.Table.{outputRow};
-ghost use Rattle.checker.specs.Read.{headAt};
-ghost use Rattle.checker.specs.Check.{sameRow, checkAnswer};
+ghost use Rattle.reading.specs.Read.{headAt};
+ghost use Rattle.reading.specs.Check.{sameRow, checkAnswer};
 ghost use Rattle.checker.specs.Tables.{NetlistHeld, SameSizes, RowReady, rowsMatched};
 
 // Whether an output's coefficients are those of the matrix's row that begins at an index.
@@ -65,8 +65,8 @@ pub fn check(matrix: &[u8], netlist: &[u8]) -> CheckAnswer
     if refusal != 0 {
         return CheckAnswer { refusal, place: 0 };
     }
-    let mut forms = super::read::blank_forms();
-    let mut depths = super::read::blank_depths();
+    let mut forms = width::blank_forms();
+    let mut depths = width::blank_depths();
     let read = super::read::netlist(netlist, &mut forms, &mut depths);
     if read.refusal != 0 {
         return CheckAnswer {

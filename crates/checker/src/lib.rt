@@ -1,25 +1,5 @@
-// Document 01, "Reading, checking, running": read, check and run. Rests on layout and width alone, and sees nothing of the elimination.
-
+// Document 01, "Reading, checking, running", carried out: read, check and run, proved equal to the definitions of `reading`. Rests on
+// layout and width besides, and sees nothing of the elimination.
 pub mod read; // read.rt: reading a netlist
 pub mod check; // check.rt: checking a netlist against a matrix
 pub mod run; // run.rt: running a netlist on samples
-
-// What read returns: a refusal and its place, or m, n, operations and depth.
-pub struct ReadAnswer {
-    pub refusal: u8,
-    pub place: usize,
-    pub m: u8,
-    pub n: u8,
-    pub operations: u16,
-    pub depth: u16,
-}
-
-pub struct CheckAnswer {
-    pub refusal: u8,
-    pub place: usize,
-}
-
-pub struct RunAnswer {
-    pub refusal: u8,
-    pub place: usize,
-}

@@ -1,19 +1,20 @@
 // Document 01, "Reading, checking, running" and "Why a record was declined": reading a netlist, refusals 7 to 12 record by record.
-use super::ReadAnswer;
 use layout::Head;
 use layout::Operation;
 use layout::Output;
 use layout::Totals;
+use reading::ReadAnswer;
 use term::Term;
 ghost use mathlib.Core.Path.{_≡_};
 ghost use Prim.Native.Nat.{_+_, _*_, _≤_, _<_, max};
 ghost use lib.IntN.{pos};
 ghost use lib.ListN.{length, take};
 ghost use Rattle.width.specs.Machine.{largest};
-ghost use Rattle.checker.specs.Read.{recordRefusal, headInRange, headRefusal, headAt, operationInRange, outputInRange, outputRefusal, totalsRefusal, widthRight, readAnswer};
+ghost use Rattle.width.specs.Table.{filled};
+ghost use Rattle.reading.specs.Read.{recordRefusal, headInRange, headRefusal, headAt, operationInRange, outputInRange, outputRefusal, totalsRefusal, widthRight, readAnswer};
 ghost use Rattle.layout.specs.Step.{payloadAt};
 ghost use Rattle.layout.specs.Records.{operationOf, outputOf, totalsOf};
-ghost use Rattle.checker.specs.Tables.{filled, operationsBefore, FormsHeld, DepthsHeld, OperationRead, OperationsRead, OutputsRead, HeadRead, NetlistHeld, RecordsRead};
+ghost use Rattle.checker.specs.Tables.{operationsBefore, FormsHeld, DepthsHeld, OperationRead, OperationsRead, OutputsRead, HeadRead, NetlistHeld, RecordsRead};
 
 // A refusal and its place; 0 at place 0 is none.
 pub(crate) struct Refusal {
@@ -286,12 +287,6 @@ fn read_outputs(bytes: &[u8], head: Head, forms: &[i64; 4096]) -> Refusal
 
 // ---- totals
 
-fn larger(a: u16, b: u16) -> u16
-    ensures { λ r. ⌜ r ≡ max a b ⌝ }
-{
-    if a < b { b } else { a }
-}
-
 // The largest of so many depths.
 fn largest_depth(depths: &[u16; 512], symbols: usize) -> u16
     requires { ⌜ (symbols ≤ 512) × (length (now depths) ≡ 512) ⌝ }
@@ -299,7 +294,7 @@ fn largest_depth(depths: &[u16; 512], symbols: usize) -> u16
 {
     let mut depth: u16 = 0;
     for i in 0..symbols {
-        depth = larger(depth, depths[i]);
+        depth = width::deeper(depth, depths[i]);
     }
     depth
 }
@@ -360,19 +355,6 @@ fn records(bytes: &[u8], head: Head, forms: &mut [i64; 4096], depths: &mut [u16;
     }
 }
 
-fn refused(refusal: u8, place: usize) -> ReadAnswer
-    ensures { λ r. ⌜ r ≡ record { refusal = refusal; place = place; m = 0; n = 0; operations = 0; depth = 0 } ⌝ }
-{
-    ReadAnswer {
-        refusal,
-        place,
-        m: 0,
-        n: 0,
-        operations: 0,
-        depth: 0,
-    }
-}
-
 // Read, and where it accepts, the coefficients of every entry in the first table.
 pub(crate) fn netlist(bytes: &[u8], forms: &mut [i64; 4096], depths: &mut [u16; 512]) -> ReadAnswer
     requires { ⌜ (length (now forms) ≡ 4096) × (now depths ≡ filled 512 0) ⌝ }
@@ -380,12 +362,12 @@ pub(crate) fn netlist(bytes: &[u8], forms: &mut [i64; 4096], depths: &mut [u16; 
 {
     let refusal = head_refusal(bytes);
     if refusal != 0 {
-        return refused(refusal, 0);
+        return ReadAnswer::refused(refusal, 0);
     }
     let head = head_at(bytes);
     let behind = records(bytes, head, forms, depths);
     if behind.refusal != 0 {
-        return refused(behind.refusal, behind.place);
+        return ReadAnswer::refused(behind.refusal, behind.place);
     }
     let place = 8 + 12 * (head.operations as usize) + 9 * (head.m as usize);
     let totals = totals_at(bytes, place);
@@ -399,24 +381,11 @@ pub(crate) fn netlist(bytes: &[u8], forms: &mut [i64; 4096], depths: &mut [u16; 
     }
 }
 
-// A table for coefficients, and one for depths.
-pub(crate) fn blank_forms() -> [i64; 4096]
-    ensures { λ r. ⌜ r ≡ filled 4096 (pos 0) ⌝ }
-{
-    [0; 4096]
-}
-
-pub(crate) fn blank_depths() -> [u16; 512]
-    ensures { λ r. ⌜ r ≡ filled 512 0 ⌝ }
-{
-    [0; 512]
-}
-
 // A netlist's m, n, operations and depth, for any bytes.
 pub fn read(bytes: &[u8]) -> ReadAnswer
     ensures { λ r. ⌜ r ≡ readAnswer (now (bytes .entry)) ⌝ }
 {
-    let mut forms = blank_forms();
-    let mut depths = blank_depths();
+    let mut forms = width::blank_forms();
+    let mut depths = width::blank_depths();
     netlist(bytes, &mut forms, &mut depths)
 }

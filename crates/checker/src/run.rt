@@ -1,23 +1,15 @@
 // Document 01, "Reading, checking, running" and "Why a record was declined": running a netlist on samples, refusals 7 to 12, 15, 16.
-use super::RunAnswer;
+use reading::RunAnswer;
 ghost use mathlib.Core.Path.{_≡_};
 ghost use mathlib.Core.List.{map};
 ghost use Prim.Native.Nat.{_+_, _≤_};
-ghost use lib.IntN.{pos};
 ghost use lib.ListN.{length, take};
 ghost use Rattle.width.specs.Machine.{machine, outputValue};
 ghost use Rattle.width.specs.Width.{Samples};
-ghost use Rattle.checker.specs.Read.{headAt};
-ghost use Rattle.checker.specs.Run.{runAnswer, runOutputs};
-ghost use Rattle.checker.specs.Tests.{operationsIn, outputsIn};
-ghost use Rattle.checker.specs.Tables.{filled, NetlistRead, SamplesHeld, BoardReady};
-
-// A table for the values of the board machine.
-fn blank_values() -> [i64; 512]
-    ensures { λ r. ⌜ r ≡ filled 512 (pos 0) ⌝ }
-{
-    [0; 512]
-}
+ghost use Rattle.reading.specs.Read.{headAt};
+ghost use Rattle.reading.specs.Run.{runAnswer, runOutputs};
+ghost use Rattle.reading.specs.Tests.{operationsIn, outputsIn};
+ghost use Rattle.checker.specs.Tables.{NetlistRead, SamplesHeld, BoardReady};
 
 // The samples, the first values of the board machine.
 fn start_values(samples: &[i16], values: &mut [i64; 512])
@@ -70,8 +62,8 @@ pub fn run(netlist: &[u8], samples: &[i16], outputs: &mut [i64]) -> RunAnswer
     ensures { λ r. ⌜ r ≡ runAnswer (now (netlist .entry)) (length (now (samples .entry))) (length (now (outputs .entry))) ⌝ }
     ensures { λ r. ⌜ now (outputs .exit) ≡ runOutputs (now (netlist .entry)) (now (samples .entry)) (now (outputs .entry)) ⌝ }
 {
-    let mut forms = super::read::blank_forms();
-    let mut depths = super::read::blank_depths();
+    let mut forms = width::blank_forms();
+    let mut depths = width::blank_depths();
     let read = super::read::netlist(netlist, &mut forms, &mut depths);
     if read.refusal != 0 {
         return RunAnswer {
@@ -94,7 +86,7 @@ pub fn run(netlist: &[u8], samples: &[i16], outputs: &mut [i64]) -> RunAnswer
         };
     }
     let operations = read.operations as usize;
-    let mut values = blank_values();
+    let mut values = width::blank_values();
     start_values(samples, &mut values);
     run_operations(netlist, n, operations, &mut values);
     fill_outputs(netlist, m, operations, &values, outputs);

@@ -12,9 +12,9 @@ use Rattle.layout.specs.declared.Output.{Output}
 use Rattle.term.specs.declared.Term.{Term}
 use Rattle.elimination.specs.Rows.{Row, plainCount}
 use Rattle.eliminate.specs.State.{noTerm}
-use Rattle.compiler.specs.Chains.{signOf, chainFrom, chain, chains, rowOutput, rowOutputs}
-use Rattle.compiler.proofs.Sums.{summed-length, summed-rows-outputs}
-use Rattle.compiler.proofs.Chains.{chain-summed, chains-summed}
+use Rattle.compilation.specs.Chains.{signOf, chainFrom, chain, chains, rowOutput, rowOutputs}
+use Rattle.compilation.proofs.Sums.{summed-length, summed-rows-outputs}
+use Rattle.compilation.proofs.Chains.{chain-summed, chains-summed}
 
 -- ---- one element more
 

@@ -19,21 +19,20 @@ use Rattle.elimination.specs.declared.Divisor.{Divisor}
 use Rattle.elimination.specs.Rows.{Row, matrixRows, plainCount}
 use Rattle.elimination.specs.Elimination.{Eliminated, smallestFirst, elimination, matrixElimination}
 use Rattle.elimination.proofs.Order.{Columns, matrix-well-formed}
-use Rattle.elimination.proofs.Counts.{plain-within, steps-plain}
-use Rattle.elimination.proofs.Elimination.{steps-of}
+use Rattle.elimination.proofs.Counts.{steps-plain}
 use Rattle.eliminate.specs.State.{Ready}
 use Rattle.eliminate.proofs.Ready.{ready-matrix}
 use Rattle.compiler.specs.Lists.{noOperation, noOutput}
-use Rattle.compiler.specs.Chains.{divisorOperation, chains, rowOutputs}
-use Rattle.compiler.specs.Compile.{positions, sampleWidth, operationsOf, outputsOf, netlistOf, compileRefused, eliminationOf, compiledNetlist, compiledBytes, compileAccepted, compileAnswer, compileBuffer}
-use Rattle.compiler.specs.Limits.{WithinLimits}
+use Rattle.compilation.specs.Chains.{divisorOperation, chains, rowOutputs}
+use Rattle.compilation.specs.Compile.{positions, sampleWidth, operationsOf, outputsOf, netlistOf, compileRefused, eliminationOf, compiledNetlist, compiledBytes, compileAccepted, compileAnswer, compileBuffer}
+use Rattle.compilation.specs.Limits.{WithinLimits}
 use Rattle.compiler.specs.Tables.{Writable, EarlierOutputs, recordedNetlist}
-use Rattle.compiler.proofs.Limits.{rows-columns, accepted-within}
-use Rattle.compiler.proofs.Counts.{Stepped, length-operations, length-outputs, operations-fewer, netlist-length}
-use Rattle.compiler.proofs.Operands.{OperationInRange, EachOperation, OperationsInRange, operations-in-range, OutputInRange, EachOutput, OutputsInRange, outputs-in-range}
-use Rattle.compiler.proofs.Netlist.{Narrow, operation-at, output-at}
-use Rattle.compiler.proofs.Narrow.{narrow}
-use Rattle.compiler.proofs.Compiled.{answer-refused, buffer-refused}
+use Rattle.compilation.proofs.Limits.{rows-columns}
+use Rattle.compilation.proofs.Counts.{Stepped, length-operations, length-outputs, operations-fewer, netlist-length}
+use Rattle.compilation.proofs.Operands.{OperationInRange, EachOperation, OperationsInRange, operations-in-range, OutputInRange, EachOutput, OutputsInRange, outputs-in-range}
+use Rattle.compilation.proofs.Netlist.{Narrow, operation-at, output-at}
+use Rattle.compilation.proofs.Narrow.{narrow}
+use Rattle.compilation.proofs.Compiled.{length-matrix-rows, limits, steps, plain-most, answer-refused, buffer-refused}
 use Rattle.compiler.proofs.ChainLaws.{outputs-count}
 
 -- ---- from each one to the one at an index
@@ -46,11 +45,6 @@ operation-index P symbol os h k l =
 output-index : (P : Output → Type 0) (os : List Output) → EachOutput P os → (i : ℕ) → i < length os → P (getD os i noOutput)
 output-index P os h i l = output-at P os (take i os) (drop (suc i) os) (getD os i noOutput) h (split-at os i noOutput l)
 
-length-matrix-rows : (p : ℕ) (m : List (List ℤ)) → length (matrixRows p m) ≡ length m
-unfolding matrixRows
-length-matrix-rows p [] = refl
-length-matrix-rows p (row ∷ m) = ap suc (length-matrix-rows p m)
-
 module _ (bytes : List ℕ) (all : AreBytes bytes) (accepted : matrixRefusal bytes ≡ 0) where
   abbrev n : ℕ
   n = columns bytes
@@ -61,50 +55,46 @@ module _ (bytes : List ℕ) (all : AreBytes bytes) (accepted : matrixRefusal byt
   abbrev e : Eliminated
   e = eliminationOf bytes
 
-  pub limits : WithinLimits 16 (rows bytes) (columns bytes) (matrix bytes)
-  limits = accepted-within bytes all accepted
+  abbrev within : WithinLimits 16 (rows bytes) (columns bytes) (matrix bytes)
+  within = limits bytes all accepted
 
   limited : Columns n (matrix bytes)
-  limited = rows-columns 16 n (matrix bytes) (limits .coefficients)
+  limited = rows-columns 16 n (matrix bytes) (within .coefficients)
 
-  steps : Stepped n first e
-  unfolding matrixElimination
-  steps = steps-of smallestFirst positions n (matrix bytes)
-
-  pub plain-most : plainCount (matrixRows positions (matrix bytes)) ≤ 504
-  plain-most = plain-within n (matrix bytes) limited (limits .columns-most) (omega (arith, limits .one-per-row, limits .rows-most))
+  abbrev stepped : Stepped n first e
+  stepped = steps bytes all accepted
 
   pub ready : Ready (columns bytes) (matrixRows positions (matrix bytes))
-  ready = ready-matrix n (matrix bytes) limited (limits .columns-most) (omega (arith, limits .one-per-row, limits .rows-most))
+  ready = ready-matrix n (matrix bytes) limited (within .columns-most) (omega (arith, within .one-per-row, within .rows-most))
 
   pub operations-most : length (operationsOf (columns bytes) (eliminationOf bytes)) ≤ 504
-  operations-most = omega (arith, operations-fewer n first e steps, plain-most)
+  operations-most = omega (arith, operations-fewer n first e stepped, plain-most bytes all accepted)
 
   pub operations-sum : length (eliminationOf bytes .divisors) + plainCount (eliminationOf bytes .remainingRows) ≤ 504
   operations-sum = omega (arith, length-operations n e, operations-most)
 
   pub replacements-most : eliminationOf bytes .replacements ≤ 504
-  replacements-most = omega (arith, steps-plain steps, plain-most)
+  replacements-most = omega (arith, steps-plain stepped, plain-most bytes all accepted)
 
   pub outputs-are : length (outputsOf (columns bytes) (eliminationOf bytes)) ≡ rows bytes
-  outputs-are = length-outputs n first e steps ∙ length-matrix-rows positions (matrix bytes) ∙ limits .one-per-row
+  outputs-are = length-outputs n first e stepped ∙ length-matrix-rows positions (matrix bytes) ∙ within .one-per-row
 
   pub remaining-few : length (eliminationOf bytes .remainingRows) ≤ 8
   unfolding outputsOf
-  remaining-few = omega (arith, outputs-count (n + length (e .divisors)) (e .remainingRows), outputs-are, limits .rows-most)
+  remaining-few = omega (arith, outputs-count (n + length (e .divisors)) (e .remainingRows), outputs-are, within .rows-most)
 
   in-range : OperationsInRange positions n (operationsOf n e)
-  in-range = operations-in-range positions n first e (omega arith) (matrix-well-formed positions n (matrix bytes) limited) steps
+  in-range = operations-in-range positions n first e (omega arith) (matrix-well-formed positions n (matrix bytes) limited) stepped
 
   narrow-widths : Narrow sampleWidth 35 n e
-  narrow-widths = narrow positions n (matrix bytes) e (omega arith) limited steps sampleWidth 3 (omega arith) (limits .columns-most)
+  narrow-widths = narrow positions n (matrix bytes) e (omega arith) limited stepped sampleWidth 3 (omega arith) (within .columns-most)
 
   at : (k : ℕ) → k < length (operationsOf n e) → OperationInRange positions (n + k) (getD (operationsOf n e) k noOperation)
   at k h = operation-index (OperationInRange positions) n (operationsOf n e) in-range k h
 
   pub writable : Writable (columns bytes) (operationsOf (columns bytes) (eliminationOf bytes))
   writable = record {
-    inputs = limits .columns-most;
+    inputs = within .columns-most;
     few = operations-most;
     first-earlier = λ k h. at k h .first-earlier;
     second-earlier = λ k h. at k h .second-earlier;
@@ -114,7 +104,7 @@ module _ (bytes : List ℕ) (all : AreBytes bytes) (accepted : matrixRefusal byt
   }
 
   outputs-within : OutputsInRange positions (n + length (operationsOf n e)) (outputsOf n e)
-  outputs-within = outputs-in-range positions n first e (omega arith) (limits .columns-least) (matrix-well-formed positions n (matrix bytes) limited) steps
+  outputs-within = outputs-in-range positions n first e (omega arith) (within .columns-least) (matrix-well-formed positions n (matrix bytes) limited) stepped
 
   output : (i : ℕ) → i < length (outputsOf n e) → OutputInRange positions (n + length (operationsOf n e)) (getD (outputsOf n e) i noOutput)
   output i h = output-index (OutputInRange positions (n + length (operationsOf n e))) (outputsOf n e) outputs-within i h
@@ -124,7 +114,7 @@ module _ (bytes : List ℕ) (all : AreBytes bytes) (accepted : matrixRefusal byt
 
   -- the size is known from the counts
   pub size-is : length (compiledBytes bytes) ≡ 8 + 12 * length (operationsOf (columns bytes) (eliminationOf bytes)) + 9 * length (outputsOf (columns bytes) (eliminationOf bytes)) + 8
-  size-is = netlist-length sampleWidth (rows bytes) n first e steps ∙ omega (arith, length-outputs n first e steps)
+  size-is = netlist-length sampleWidth (rows bytes) n first e stepped ∙ omega (arith, length-outputs n first e stepped)
 
 pub netlist-is : (bytes : List ℕ) → recordedNetlist sampleWidth (rows bytes) (columns bytes) (operationsOf (columns bytes) (eliminationOf bytes)) (outputsOf (columns bytes) (eliminationOf bytes)) ≡ compiledNetlist bytes
 unfolding netlistOf

@@ -4,25 +4,10 @@ use Prim.Native.Nat.{ℕ, zero, suc, _+_, _*_, _-_, _≤_, _<_}
 use mathlib.Core.Path.{_≡_, refl, sym, ap, _∙_}
 use mathlib.Core.List.{List, [], _∷_, _++_, append-assoc, append-nil}
 use native.Mathlib.Omega.{arith}
-use lib.IntN.{ℤ, pos, negsuc}
-use lib.ListN.{length}
-use Rattle.digits.specs.Digits.{digits, nonzero}
-use Rattle.digits.proofs.Count.{digits-nonzero-half}
+use lib.IntN.{ℤ}
+use Rattle.digits.specs.Digits.{digits}
 use Rattle.layout.specs.Matrix.{coefficientAt, coefficientsFrom, rowsFrom}
 use Rattle.elimination.specs.Rows.{Row, columnTerms, rowFrom, matrixRows}
-
--- ---- digits: at most every second one has a term
-
-module _ (column : ℕ) where
-  column-count : (p : ℕ) (ds : List ℤ) → length (columnTerms column p ds) ≡ nonzero ds
-  unfolding columnTerms nonzero
-  column-count p [] = refl
-  column-count p (pos zero ∷ ds) = column-count (suc p) ds
-  column-count p (pos (suc d) ∷ ds) = ap suc (column-count (suc p) ds)
-  column-count p (negsuc d ∷ ds) = ap suc (column-count (suc p) ds)
-
-  pub column-few : (half : ℕ) (z : ℤ) → length (columnTerms column 0 (digits (2 * half) z)) ≤ half
-  column-few half z = omega (arith, column-count 0 (digits (2 * half) z), digits-nonzero-half half z)
 
 -- ---- columns
 

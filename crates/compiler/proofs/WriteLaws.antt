@@ -5,7 +5,7 @@ use mathlib.Core.Path.{_≡_, refl, sym, ap, ap₂, _∙_, subst}
 use mathlib.Core.List.{List, [], _∷_, _++_, flatMap, map, append-assoc}
 use native.Mathlib.Omega.{arith}
 use lib.IntN.{ℤ, pos}
-use lib.ListN.{length, getD, take, drop, set, replicate, take-append-drop, drop-of-length-le, length-append, length-map, length-drop, length-replicate}
+use lib.ListN.{length, getD, take, drop, set, replicate, take-append-drop, drop-of-length-le, length-append, length-map, length-drop}
 use lib.Seq.{drop-cons, take-suc, length-take-le}
 use Rattle.layout.specs.declared.Operation.{Operation}
 use Rattle.layout.specs.declared.Output.{Output}
@@ -16,15 +16,15 @@ use Rattle.layout.proofs.Written.{written-part, written-start, written-nothing,
 use Rattle.layout.proofs.Lengths.{length-head, length-operation, length-output, length-totals, length-records}
 use Rattle.width.specs.Machine.{entryForm, operationDepth, depths, depth}
 use Rattle.width.specs.Width.{width}
-use Rattle.width.specs.Table.{coefficientAt, row, operationCoefficient, operationRow, formAppended, HoldsForms, SmallForms, SmallRange}
+use Rattle.width.specs.Table.{filled, coefficientAt, row, operationCoefficient, operationRow, formAppended, HoldsForms, SmallForms, SmallRange}
 use Rattle.width.proofs.FormLaws.{columns-at, columns-same, length-columns, entry-form-keeps}
-use Rattle.width.proofs.TableLaws.{sets-inside, operation-row-is, output-row-is, appended-holds, front-at, depth-appended}
+use Rattle.width.proofs.TableLaws.{take-filled, sets-inside, operation-row-is, output-row-is, appended-holds, front-at, depth-appended}
 use Rattle.width.proofs.DepthLaws.{depth-snoc, depths-at-most}
 use Rattle.width.proofs.BoundLaws.{forms-small, appended-range-small, output-row-range-small}
 use Rattle.compiler.specs.Lists.{noOperation, noOutput}
-use Rattle.compiler.specs.Compile.{sampleWidth, withWidth, withWidths, outputWithWidth}
-use Rattle.compiler.specs.Tables.{Writable, EarlierOutputs, WritableOutputs, withTableWidth, noForms, noDepths}
-use Rattle.compiler.proofs.Counts.{length-with-widths}
+use Rattle.compilation.specs.Compile.{sampleWidth, withWidth, withWidths, outputWithWidth}
+use Rattle.compiler.specs.Tables.{Writable, EarlierOutputs, WritableOutputs, withTableWidth}
+use Rattle.compilation.proofs.Counts.{length-with-widths}
 
 -- ---- a row that is written is read back
 
@@ -196,24 +196,9 @@ module _ (n : ℕ) (os : List Operation) where
         ∙ sym (depth-snoc n (take k os) o)
         ∙ ap (depth n) up-to-next
 
-take-replicate : {A : Type 0} (a : A) (n m : ℕ) → n ≤ m → take n (replicate m a) ≡ replicate n a
-take-replicate a zero m h = refl
-take-replicate a (suc n) zero h = absurd (omega arith)
-take-replicate {A} a (suc n) (suc m) h = ap (λ (l : List A). a ∷ l) (take-replicate a n m (omega arith))
-
-pub depths-start : (n size : ℕ) → n ≤ size → take (n + 0) (noDepths size) ≡ depths (replicate n 0) []
-unfolding noDepths depths
-depths-start n size h =
-    let none : n + 0 ≡ n = omega arith in
-    ap (λ (k : ℕ). take k (replicate {A = ℕ} size 0)) none ∙ take-replicate 0 n size h
-
-pub length-no-depths : (size : ℕ) → length (noDepths size) ≡ size
-unfolding noDepths
-length-no-depths size = length-replicate size 0
-
-pub length-no-forms : (size : ℕ) → length (noForms size) ≡ size
-unfolding noForms
-length-no-forms size = length-replicate size (pos 0)
+pub depths-start : (n size : ℕ) → n ≤ size → take (n + 0) (filled size 0) ≡ depths (replicate n 0) []
+unfolding depths
+depths-start n size h = let none : n + 0 ≡ n = omega arith in ap (λ (k : ℕ). take k (filled {A = ℕ} size 0)) none ∙ take-filled 0 n size h
 
 -- ---- outputs
 

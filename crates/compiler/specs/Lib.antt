@@ -1,9 +1,3 @@
-pub mod Chains
-pub mod Compile
-pub mod Sums
-pub mod Limits
-pub mod Compiled
-pub mod Marked
 pub mod Lists
 pub mod Tables
 pub mod Planned

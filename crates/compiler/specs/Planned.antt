@@ -11,7 +11,7 @@ use Rattle.layout.specs.Matrix.{matrix, columns}
 use Rattle.compiler.specs.declared.eliminated.Eliminated.{Eliminated}
 use Rattle.compiler.specs.declared.planned.Planned.{Planned}
 use Rattle.compiler.specs.Lists.{divisorsList, operationsList, outputsList}
-use Rattle.compiler.specs.Compile.{positions, operationsOf, outputsOf, eliminationOf}
+use Rattle.compilation.specs.Compile.{positions, operationsOf, outputsOf, eliminationOf}
 
 -- elimination's end by value, as document 01's
 abbrev pub eliminatedOf : Eliminated → rules.Eliminated

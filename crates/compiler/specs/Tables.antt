@@ -11,7 +11,7 @@ use Rattle.layout.specs.Records.{Netlist}
 use Rattle.width.specs.Machine.{entryForm, depth}
 use Rattle.width.specs.Width.{width}
 use Rattle.width.specs.Table.{outputRow, SmallRange}
-use Rattle.compiler.specs.Compile.{sampleWidth, withWidths, outputWithWidth}
+use Rattle.compilation.specs.Compile.{sampleWidth, withWidths, outputWithWidth}
 use Rattle.compiler.specs.Lists.{noOperation, noOutput}
 
 -- operations over n inputs: at most 504, operands earlier, shifts at most 15, widths at most 35
@@ -49,10 +49,3 @@ recordedNetlist s m n os outputs =
       outputs = map (outputWithWidth s n os) outputs;
       totals = record { operations = length os; depth = depth n os };
     }
-
--- tables before anything is entered
-unfoldable pub noForms : ℕ → List ℤ
-noForms size = replicate size (pos 0)
-
-unfoldable pub noDepths : ℕ → List ℕ
-noDepths size = replicate size 0

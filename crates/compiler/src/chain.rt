@@ -16,7 +16,7 @@ ghost use lib.ListN.{length};
 ghost use Rattle.eliminate.specs.State.{rowTerms, rowsTerms};
 ghost use Rattle.elimination.specs.Rows.{plainCount};
 ghost use Rattle.compiler.specs.Lists.{divisorsList, operationsList, outputsList};
-ghost use Rattle.compiler.specs.Chains.{signOf, divisorOperation, chain, chains, rowOutput, rowOutputs};
+ghost use Rattle.compilation.specs.Chains.{signOf, divisorOperation, chain, chains, rowOutput, rowOutputs};
 
 // 0 add or plus, 1 subtract or minus.
 fn sign_of(minus: bool) -> u8

@@ -1,4 +1,5 @@
-// Document 01, "Netlist and board machine": compile, from a matrix record to the netlist's bytes.
+// Document 01, "Netlist and board machine", carried out: compile, from a matrix record to the netlist's bytes, proved equal to the
+// definitions of `compilation`.
 pub mod divisors; // divisors.rt: the divisors, by value
 pub mod operations; // operations.rt: the operations, by value
 pub mod outputs; // outputs.rt: the outputs, by value
@@ -8,38 +9,11 @@ pub mod eliminated; // eliminated.rt: elimination to its end
 pub mod planned; // planned.rt: the operations and outputs of a matrix record, and the counts
 pub mod write; // write.rt: the netlist's records, with widths and depth
 
+use compilation::CompileAnswer;
 use write::write_netlist;
 ghost use mathlib.Core.Path.{_≡_};
 ghost use lib.ListN.{length};
-ghost use Rattle.compiler.specs.Compile.{compileRefused, compileAnswer, compileBuffer};
-
-// What compile returns: a refusal and its place, or the bytes written and the counts.
-pub struct CompileAnswer {
-    pub refusal: u8,
-    pub place: usize,
-    pub written: usize,
-    pub operations: u16,
-    pub plain: u16,
-    pub divisors: u16,
-    pub replacements: u16,
-    pub depth: u16,
-}
-
-// Every count is 0 where compile refuses, and the place too.
-fn refused(refusal: u8) -> CompileAnswer
-    ensures { λ r. ⌜ r ≡ compileRefused refusal ⌝ }
-{
-    CompileAnswer {
-        refusal,
-        place: 0,
-        written: 0,
-        operations: 0,
-        plain: 0,
-        divisors: 0,
-        replacements: 0,
-        depth: 0,
-    }
-}
+ghost use Rattle.compilation.specs.Compile.{compileAnswer, compileBuffer};
 
 // From a matrix record to its netlist, at the start of the lent buffer. Nothing is written before it is known that all of it fits.
 pub fn compile(matrix: &[u8], buffer: &mut [u8]) -> CompileAnswer
@@ -48,7 +22,7 @@ pub fn compile(matrix: &[u8], buffer: &mut [u8]) -> CompileAnswer
 {
     let refusal = layout::matrix::matrix_refusal(matrix);
     if refusal != 0 {
-        return refused(refusal);
+        return CompileAnswer::refused(refusal);
     }
     let plan = planned::plan(matrix);
     let operations = plan.operations;
@@ -56,7 +30,7 @@ pub fn compile(matrix: &[u8], buffer: &mut [u8]) -> CompileAnswer
     let count = operations.count();
     let size = 8 + 12 * count + 9 * outputs.count() + 8;
     if buffer.len() < size {
-        return refused(6);
+        return CompileAnswer::refused(6);
     }
     let depth = write_netlist(buffer, operations, outputs, matrix[4], matrix[5]);
     CompileAnswer {

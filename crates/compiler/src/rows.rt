@@ -7,7 +7,7 @@ ghost use lib.ListN.{length};
 ghost use Rattle.layout.specs.Matrix.{coefficientsFrom, rowsFrom};
 ghost use Rattle.eliminate.specs.State.{rowTerms, rowsTerms};
 ghost use Rattle.elimination.specs.Rows.{rowFrom, matrixRows};
-ghost use Rattle.compiler.specs.Compile.{positions};
+ghost use Rattle.compilation.specs.Compile.{positions};
 
 // The row of n coefficients from an index on.
 fn matrix_row(bytes: &[u8], index: usize, n: usize) -> Row

@@ -16,8 +16,8 @@ ghost use Rattle.width.specs.Machine.{depth};
 ghost use Rattle.width.specs.Width.{width};
 ghost use Rattle.width.specs.Table.{operationRow, formAppended, HoldsForms, SmallForms, SmallRange};
 ghost use Rattle.compiler.specs.Lists.{operationsList, outputsList};
-ghost use Rattle.compiler.specs.Compile.{sampleWidth, withWidth, withWidths};
-ghost use Rattle.compiler.specs.Tables.{Writable, WritableOutputs, EarlierOutputs, withTableWidth, recordedNetlist, noForms, noDepths};
+ghost use Rattle.compilation.specs.Compile.{sampleWidth, withWidth, withWidths};
+ghost use Rattle.compiler.specs.Tables.{Writable, WritableOutputs, EarlierOutputs, withTableWidth, recordedNetlist};
 
 // "over all samples from −32,768 to 32,767".
 const SAMPLE_WIDTH: u8 = 16;
@@ -97,36 +97,18 @@ pub fn write_outputs(
     }
 }
 
-fn larger(a: u16, b: u16) -> u16
-    ensures { λ r. ⌜ r ≡ max a b ⌝ }
-{
-    if a < b { b } else { a }
-}
-
-fn no_depths() -> [u16; 512]
-    ensures { λ r. ⌜ r ≡ noDepths 512 ⌝ }
-{
-    [0u16; 512]
-}
-
-fn no_forms() -> [i64; 4096]
-    ensures { λ r. ⌜ r ≡ noForms 4096 ⌝ }
-{
-    [0i64; 4096]
-}
-
 // The netlist's depth: the largest of all operations.
 pub fn depth_of(operations: Operations, n: usize) -> u16
     requires { ⌜ Writable n (operationsList operations) ⌝ }
     ensures { λ r. ⌜ r ≡ depth n (operationsList operations) ⌝ }
 {
     let count = operations.count();
-    let mut depths = no_depths();
+    let mut depths = width::blank_depths();
     let mut largest: u16 = 0;
     for k in 0..count {
         let depth = width::operation_depth(&depths, operations.operation(k));
         depths[n + k] = depth;
-        largest = larger(largest, depth);
+        largest = width::deeper(largest, depth);
     }
     largest
 }
@@ -152,7 +134,7 @@ pub fn write_netlist(
         operations: count as u16,
     };
     layout::write::write_head(buffer, head);
-    let mut forms = no_forms();
+    let mut forms = width::blank_forms();
     width::start_forms(&mut forms, columns);
     write_operations(buffer, &mut forms, operations, columns);
     let place = 8 + 12 * count;

@@ -13,8 +13,8 @@ use lib.ListN.{length, getD, drop, length-append}
 use mir.Syntax.{w8}
 use mir.Val.{SFits}
 use Rattle.term.specs.declared.Term.{Term}
-use Rattle.digits.specs.Digits.{IsDigit, minus-one, none, one, digits, nonzero}
-use Rattle.digits.proofs.Count.{digits-nonzero-half}
+use Rattle.digits.specs.Digits.{IsDigit, minus-one, none, one, digits}
+use Rattle.elimination.proofs.Counts.{column-few}
 use Rattle.elimination.specs.Rows.{Row, columnTerms}
 use Rattle.eliminate.proofs.Members.{left-next, left-none}
 
@@ -57,16 +57,9 @@ module _ (column : ℕ) (ds : List ℤ) (i : ℕ) (done : Row) where
 
 -- ---- at most half the digits of a coefficient have a term
 
-column-length : (column position : ℕ) (ds : List ℤ) → length (columnTerms column position ds) ≡ nonzero ds
-unfolding columnTerms nonzero
-column-length column position [] = refl
-column-length column position (pos zero ∷ ds) = column-length column (suc position) ds
-column-length column position (pos (suc d) ∷ ds) = ap suc (column-length column (suc position) ds)
-column-length column position (negsuc d ∷ ds) = ap suc (column-length column (suc position) ds)
-
 pub column-most : (column : ℕ) (z : ℤ) (before : Row) → length before ≤ 56 → length (before ++ columnTerms column 0 (digits 16 z)) ≤ 64
 column-most column z before h =
-    omega (arith, length-append before (columnTerms column 0 (digits 16 z)), column-length column 0 (digits 16 z), digits-nonzero-half 8 z)
+    omega (arith, length-append before (columnTerms column 0 (digits 16 z)), column-few 8 column z)
 
 -- what stands in front is no longer than the whole
 pub front-most : (front rest whole : Row) (most : ℕ) → front ++ rest ≡ whole → length whole ≤ most → length front ≤ most

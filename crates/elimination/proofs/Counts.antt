@@ -43,12 +43,16 @@ steps-divisors s = omega (arith, steps-plain s, steps-twice s)
 
 -- ---- of a matrix
 
-column-count : (column position : ℕ) (ds : List ℤ) → length (columnTerms column position ds) ≡ nonzero ds
+pub column-count : (column position : ℕ) (ds : List ℤ) → length (columnTerms column position ds) ≡ nonzero ds
 unfolding columnTerms nonzero
 column-count column position [] = refl
 column-count column position (pos zero ∷ ds) = column-count column (suc position) ds
 column-count column position (pos (suc d) ∷ ds) = ap suc (column-count column (suc position) ds)
 column-count column position (negsuc d ∷ ds) = ap suc (column-count column (suc position) ds)
+
+-- at most every second digit has a term
+pub column-few : (half column : ℕ) (z : ℤ) → length (columnTerms column 0 (digits (2 * half) z)) ≤ half
+column-few half column z = omega (arith, column-count column 0 (digits (2 * half) z), digits-nonzero-half half z)
 
 row-count : (half column : ℕ) (zs : List ℤ) → length (rowFrom (2 * half) column zs) ≤ half * length zs
 unfolding rowFrom
@@ -56,8 +60,7 @@ row-count half column [] = omega arith
 row-count half column (z ∷ zs) = omega (
   arith,
   length-append (columnTerms column 0 (digits (2 * half) z)) (rowFrom (2 * half) (suc column) zs),
-  column-count column 0 (digits (2 * half) z),
-  digits-nonzero-half half z,
+  column-few half column z,
   row-count half (suc column) zs,
 )
 

@@ -13,14 +13,14 @@ use lib.ListN.{length}
 use borrow.Author.Tests.{eq-eqb, ne-eqb, eqb-true, eqb-false}
 use Rattle.layout.specs.Records.{Netlist}
 use Rattle.layout.proofs.LittleEndian.{AreBytes}
-use Rattle.checker.specs.Read.{refused, accepted, readNetlist}
-use Rattle.checker.specs.Run.{ran, countsAnswer, runAnswer, netlistOutputs, runOutputs}
-use Rattle.checker.specs.declared.RunAnswer.{RunAnswer}
-use Rattle.checker.specs.Exact.{HeadLimits}
-use Rattle.checker.specs.Tests.{netlistIn, readTests}
-use Rattle.checker.proofs.TestLaws.{Decided}
-use Rattle.checker.proofs.ReadAccepts.{reads-netlist}
-use Rattle.checker.proofs.ReadTests.{read-decided}
+use Rattle.reading.specs.Read.{refused, accepted, readNetlist}
+use Rattle.reading.specs.Run.{ran, countsAnswer, runAnswer, netlistOutputs, runOutputs}
+use Rattle.reading.specs.declared.RunAnswer.{RunAnswer}
+use Rattle.reading.specs.Exact.{HeadLimits}
+use Rattle.reading.specs.Tests.{netlistIn, readTests}
+use Rattle.reading.proofs.TestLaws.{Decided}
+use Rattle.reading.proofs.ReadAccepts.{reads-netlist}
+use Rattle.reading.proofs.ReadTests.{read-decided}
 use Rattle.checker.proofs.BoardLaws.{counts-agree}
 use Rattle.ffi.specs.OutputBytes.{integerBytes, outputCount, runBytes, Lent}
 

@@ -8,8 +8,8 @@ use mathlib.Core.List.{List, [], _∷_, flatMap}
 use lib.Dec.{eqb}
 use lib.IntN.{ℤ, pos, negsuc}
 use lib.ListN.{length}
-use Rattle.checker.specs.Read.{refused, accepted, readNetlist}
-use Rattle.checker.specs.Run.{netlistOutputs}
+use Rattle.reading.specs.Read.{refused, accepted, readNetlist}
+use Rattle.reading.specs.Run.{netlistOutputs}
 
 -- two's complement of 64 bits: a negative integer, here −(k + 1), stands as 2^64 less k + 1
 unfoldable pub twosComplement : ℤ → ℕ

@@ -4,10 +4,10 @@ mod outputs; // outputs.rt: run, with samples and outputs as bytes
 
 ghost use mathlib.Core.Path.{_≡_};
 ghost use lib.ListN.{length};
-ghost use Rattle.compiler.specs.Compile.{compileAnswer, compileBuffer};
-ghost use Rattle.checker.specs.Read.{readAnswer};
-ghost use Rattle.checker.specs.Check.{checkAnswer};
-ghost use Rattle.checker.specs.Run.{runAnswer};
+ghost use Rattle.compilation.specs.Compile.{compileAnswer, compileBuffer};
+ghost use Rattle.reading.specs.Read.{readAnswer};
+ghost use Rattle.reading.specs.Check.{checkAnswer};
+ghost use Rattle.reading.specs.Run.{runAnswer};
 ghost use Rattle.samples.specs.Samples.{samplesOf};
 ghost use Rattle.ffi.specs.OutputBytes.{outputCount, runBytes};
 ghost use Rattle.layout.specs.Step.{stepNumbers};

@@ -1,12 +1,12 @@
 // Document 01, "Reading, checking, running": run, with samples and outputs as bytes: outputs have 8 bytes each, little-endian two's
 // complement. Rests on samples, width and checker.
-use checker::RunAnswer;
+use reading::RunAnswer;
 ghost use mathlib.Core.Path.{_≡_};
 ghost use mathlib.Core.List.{flatMap};
 ghost use Prim.Native.Nat.{_+_, _*_, _≤_};
 ghost use lib.ListN.{length};
 ghost use lib.Seq.{sets};
-ghost use Rattle.checker.specs.Run.{runAnswer};
+ghost use Rattle.reading.specs.Run.{runAnswer};
 ghost use Rattle.samples.specs.Samples.{samplesOf};
 ghost use Rattle.ffi.specs.OutputBytes.{twosComplement, integerBytes, outputCount, runBytes, Lent};
 

@@ -1,5 +1,5 @@
 // Document 01, "Matrix record" and "Netlist and board machine": the records, as data and as bytes.
-pub mod bytes; // bytes.rt: little-endian numbers in lent bytes
+pub mod little_endian; // little_endian.rt: little-endian numbers in lent bytes
 pub mod matrix; // matrix.rt: the matrix record: refusals 1 to 5, coefficients
 pub mod step; // step.rt: the step over a record
 pub mod write; // write.rt: a writer for each kind of record of a netlist

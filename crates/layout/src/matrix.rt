@@ -1,5 +1,5 @@
 // Document 01, "Matrix record" and "Why a record was declined": the matrix record.
-use super::bytes::word_at;
+use super::little_endian::word_at;
 ghost use mathlib.Core.Path.{_≡_};
 ghost use Prim.Native.Nat.{_+_, _*_, _<_};
 ghost use lib.ListN.{length};

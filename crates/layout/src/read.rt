@@ -3,7 +3,7 @@ use super::Head;
 use super::Operation;
 use super::Output;
 use super::Totals;
-use super::bytes::word_at;
+use super::little_endian::word_at;
 ghost use mathlib.Core.Path.{_≡_};
 ghost use Prim.Native.Nat.{_≤_};
 ghost use lib.ListN.{length};

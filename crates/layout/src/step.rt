@@ -1,5 +1,5 @@
 // Document 01, "Reading, checking, running": the step over a record.
-use super::bytes::word_at;
+use super::little_endian::word_at;
 ghost use mathlib.Core.Path.{_≡_};
 ghost use Rattle.layout.specs.Step.{stepRefusal, stepNumbers, payloadAt, numbersOf};
 

@@ -9,11 +9,11 @@ use lib.IntN.{ℤ}
 use lib.ListN.{length}
 use Rattle.layout.specs.Records.{Netlist}
 use Rattle.layout.proofs.LittleEndian.{AreBytes}
-use Rattle.checker.specs.Read.{Reading, refused, accepted, readNetlist}
-use Rattle.checker.specs.Run.{runAnswer, runOutputs}
-use Rattle.checker.specs.Exact.{HeadLimits}
-use Rattle.checker.proofs.FirstRecords.{length-first}
-use Rattle.checker.proofs.ReadAccepts.{reads-netlist}
+use Rattle.reading.specs.Read.{Reading, refused, accepted, readNetlist}
+use Rattle.reading.specs.Run.{runAnswer, runOutputs}
+use Rattle.reading.specs.Exact.{HeadLimits}
+use Rattle.reading.proofs.FirstRecords.{length-first}
+use Rattle.reading.proofs.ReadAccepts.{reads-netlist}
 use Rattle.checker.proofs.BoardLaws.{samples-differ}
 use Rattle.samples.specs.Samples.{sampleAt, firstSamples, samplesOf, Lent}
 

@@ -9,8 +9,8 @@ use lib.IntN.{ℤ}
 use lib.ListN.{length, set, take}
 use lib.Seq.{take-suc-set}
 use borrow.Author.Tests.{eq-eqb, ne-eqb}
-use Rattle.checker.specs.Tests.{firstRecords}
-use Rattle.checker.proofs.FirstRecords.{length-first}
+use Rattle.reading.specs.Tests.{firstRecords}
+use Rattle.reading.proofs.FirstRecords.{length-first}
 use Rattle.samples.specs.Samples.{sampleAt, firstSamples, samplesOf, Lent}
 
 module _ (bytes : List ℕ) where

@@ -10,7 +10,7 @@ use lib.IntN.{ℤ}
 use lib.ListN.{length}
 use Rattle.layout.specs.Bytes.{word}
 use Rattle.layout.specs.Matrix.{signedWord}
-use Rattle.checker.specs.Tests.{firstRecords}
+use Rattle.reading.specs.Tests.{firstRecords}
 
 -- the sample of an index
 abbrev pub sampleAt : List ℕ → ℕ → ℤ

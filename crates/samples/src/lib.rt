@@ -1,12 +1,12 @@
 // Document 01, "Reading, checking, running": run, with the samples given as bytes, 2 bytes each, little-endian two's complement, as the
 // matrix record's coefficients are. Rests on layout and checker.
-use checker::RunAnswer;
-use layout::bytes::word_at;
+use layout::little_endian::word_at;
 use layout::matrix::signed_word;
+use reading::RunAnswer;
 ghost use mathlib.Core.Path.{_≡_};
 ghost use Prim.Native.Nat.{_*_, _≤_};
 ghost use lib.ListN.{length, take};
-ghost use Rattle.checker.specs.Run.{runAnswer, runOutputs};
+ghost use Rattle.reading.specs.Run.{runAnswer, runOutputs};
 ghost use Rattle.samples.specs.Samples.{samplesOf, firstSamples, Lent};
 
 // How many samples to lend: all, or none where they are more than 8, since no netlist takes so many.

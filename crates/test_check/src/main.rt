@@ -1,6 +1,6 @@
 // Runs read and check on stored cases. Standard input is a list of cases: the length of a matrix record and the length of a netlist (2 bytes
 // each, little-endian), then the bytes of both. What is printed is compared with the output of a second implementation.
-use layout::bytes::word_at;
+use layout::little_endian::word_at;
 use libc::STDIN_FILENO;
 use libc::STDOUT_FILENO;
 

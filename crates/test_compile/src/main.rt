@@ -1,8 +1,8 @@
 // Runs compile on stored cases. Standard input is a list of cases: the length of the lent buffer and the length of a matrix record
 // (2 bytes each, little-endian), then the record's bytes. The answer and the buffer afterwards, which held A5 before, are printed
 // and compared with the output of a second implementation.
-use compiler::CompileAnswer;
-use layout::bytes::word_at;
+use compilation::CompileAnswer;
+use layout::little_endian::word_at;
 use libc::STDIN_FILENO;
 use libc::STDOUT_FILENO;
 ghost use mathlib.Core.Path.{_≡_};

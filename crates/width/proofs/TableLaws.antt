@@ -7,15 +7,28 @@ use mathlib.Core.List.{List, [], _∷_, _++_}
 use native.Mathlib.Omega.{arith}
 use native.Mathlib.Decide.{decLt, ℕ-discrete}
 use lib.IntN.{ℤ, pos}
-use lib.ListN.{length, getD, set, take, drop, length-set, length-append}
+use lib.ListN.{length, getD, set, take, drop, replicate, length-set, length-append, length-replicate}
 use lib.Seq.{sets, length-sets, drop-cons, getD-set-same, getD-set-other, getD-take, take-suc-set}
 use Rattle.layout.specs.declared.Operation.{Operation}
 use Rattle.layout.specs.declared.Output.{Output}
 use Rattle.width.specs.Machine.{entryAt, operationValue, machine, operationDepth, depths, outputValue, unit, entryForm, outputForm}
-use Rattle.width.specs.Table.{coefficientAt, row, operationCoefficient, operationRow, outputRow, formAppended, unitRowsFrom, formsStarted, HoldsForms, valueAppended}
+use Rattle.width.specs.Table.{filled, coefficientAt, row, operationCoefficient, operationRow, outputRow, formAppended, unitRowsFrom, formsStarted, HoldsForms, valueAppended}
 use Rattle.width.proofs.MachineLaws.{machine-snoc, machine-keeps-after, machine-last, operation-same}
 use Rattle.width.proofs.FormLaws.{length-unit, unit-other, entry-columns, output-columns, length-columns, columns-at, columns-same}
 use Rattle.width.proofs.DepthLaws.{depths-snoc}
+
+-- ---- tables that were just made
+
+module _ {A : Type 0} (x : A) where
+  pub length-filled : (k : ℕ) → length (filled k x) ≡ k
+  unfolding filled
+  length-filled k = length-replicate k x
+
+  pub take-filled : (n k : ℕ) → n ≤ k → take n (filled k x) ≡ replicate n x
+  unfolding filled
+  take-filled zero k l = refl
+  take-filled (suc n) zero l = absurd (omega arith)
+  take-filled (suc n) (suc k) l = ap (λ (r : List A). x ∷ r) (take-filled n k (omega arith))
 
 -- ---- numbers written one after another
 

@@ -5,12 +5,16 @@ use Prim.Native.Nat.{ℕ, zero, suc, _+_, _*_, _-_, _^_, _<_}
 use mathlib.Core.Path.{_≡_}
 use mathlib.Core.List.{List, [], _∷_}
 use lib.IntN.{ℤ, pos, natAbs}
-use lib.ListN.{length, getD, set}
+use lib.ListN.{length, getD, set, replicate}
 use lib.Seq.{sets}
 use Rattle.layout.specs.declared.Operation.{Operation}
 use Rattle.layout.specs.declared.Output.{Output}
 use Rattle.width.specs.Machine.{entryAt, shifted, joined, signed, operationValue, unit, machine}
 use Rattle.width.specs.Width.{positives, negatives}
+
+-- a table of k places that all hold x
+unfoldable pub filled : {A : Type 0} → ℕ → A → List A
+filled k x = replicate k x
 
 -- ---- the coefficients: those of a symbol stand in its row of eight
 

@@ -5,11 +5,12 @@ use layout::Operation;
 use layout::Output;
 ghost use mathlib.Core.Path.{_≡_};
 ghost use Prim.Native.Nat.{_+_, _*_, _-_, _^_, _≤_, _<_, max, pred};
+ghost use lib.IntN.{pos};
 ghost use lib.ListN.{getD};
 ghost use lib.Seq.{sets};
 ghost use Rattle.width.specs.Machine.{shifted, joined, signed, entryAt, operationDepth, unit};
 ghost use Rattle.width.specs.Width.{positivePart, negativePart, positives, negatives, bits, widthOf, width};
-ghost use Rattle.width.specs.Table.{Small, SmallForms, SmallRange, row, outputRow, formAppended, formsStarted, valueAppended};
+ghost use Rattle.width.specs.Table.{filled, Small, SmallForms, SmallRange, row, outputRow, formAppended, formsStarted, valueAppended};
 
 // A·2^sA + B·2^sB, or A·2^sA − B·2^sB: of entries, and of their coefficients.
 pub fn combined(sign: u8, a: i64, sa: u8, b: i64, sb: u8) -> i64
@@ -218,4 +219,31 @@ pub fn append_value(values: &mut [i64; 512], o: Operation, symbol: usize)
     let y = values[b];
     let z = combined(o.sign, x, o.sa, y, o.sb);
     values[symbol] = z;
+}
+
+// The deeper of two.
+pub fn deeper(a: u16, b: u16) -> u16
+    ensures { λ r. ⌜ r ≡ max a b ⌝ }
+{
+    if a < b { b } else { a }
+}
+
+// ---- tables to lend: for the coefficients, the values and the depths of 8 samples and 504 operations
+
+pub fn blank_forms() -> [i64; 4096]
+    ensures { λ r. ⌜ r ≡ filled 4096 (pos 0) ⌝ }
+{
+    [0; 4096]
+}
+
+pub fn blank_values() -> [i64; 512]
+    ensures { λ r. ⌜ r ≡ filled 512 (pos 0) ⌝ }
+{
+    [0; 512]
+}
+
+pub fn blank_depths() -> [u16; 512]
+    ensures { λ r. ⌜ r ≡ filled 512 0 ⌝ }
+{
+    [0; 512]
 }

@@ -5,8 +5,8 @@ use mathlib.Core.List.{List}
 use lib.ListN.{length}
 use lib.Seq.{length-take-le}
 use borrow.Author.Needs.{needs}
-use Rattle.compiler.specs.declared.CompileAnswer.{CompileAnswer}
-use Rattle.compiler.specs.Compile.{compileAnswer, compileBuffer}
+use Rattle.compilation.specs.declared.CompileAnswer.{CompileAnswer}
+use Rattle.compilation.specs.Compile.{compileAnswer, compileBuffer}
 use Rattle.bank.proofs.Claim.{calls-are}
 use Rattle.bank.proofs.Lent.{written-within}
 use Rattle.bank.proofs.compile_read_run.Statement.{statement}

@@ -12,10 +12,10 @@ use Rattle.layout.proofs.LittleEndian.{AreBytes}
 use Rattle.layout.proofs.MatrixRefusal.{accepted-matrix}
 use Rattle.width.specs.Machine.{depth}
 use Rattle.compiler.specs.Lists.{operationsList, outputsList}
-use Rattle.compiler.specs.Compile.{operationsOf, eliminationOf, compiledBytes}
+use Rattle.compilation.specs.Compile.{operationsOf, eliminationOf, compiledBytes}
 use Rattle.compiler.specs.Tables.{Writable, EarlierOutputs}
-use Rattle.compiler.proofs.Compiled.{answer-short, answer-accepted, buffer-short, buffer-accepted}
-use Rattle.compiler.proofs.PlanLaws.{limits, plain-most, operations-most, operations-sum, replacements-most, outputs-are, writable, earlier-outputs, size-is, declined, accepted-is, buffer-is}
+use Rattle.compilation.proofs.Compiled.{limits, plain-most, answer-short, answer-accepted, buffer-short, buffer-accepted}
+use Rattle.compiler.proofs.PlanLaws.{operations-most, operations-sum, replacements-most, outputs-are, writable, earlier-outputs, size-is, declined, accepted-is, buffer-is}
 use Rattle.compiler.proofs.compile.Statement.{statement}
 use Rattle.compiler.proofs.compile.Tie as tie
 

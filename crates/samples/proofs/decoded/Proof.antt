@@ -7,7 +7,7 @@ use lib.ListN.{length, take, length-set}
 use mir.Syntax.{w16}
 use Rattle.integers.proofs.Held.{call-result}
 use Rattle.layout.specs.Matrix.{signedWord}
-use Rattle.checker.specs.Tests.{firstRecords}
+use Rattle.reading.specs.Tests.{firstRecords}
 use Rattle.samples.specs.Samples.{firstSamples}
 use Rattle.samples.proofs.Samples.{next-sample}
 use Rattle.samples.proofs.decoded.Statement.{statement}

@@ -5,7 +5,7 @@ use native.Mathlib.Omega.{arith}
 use lib.IntN.{ℤ}
 use lib.ListN.{length, length-take}
 use borrow.Author.Needs.{needs}
-use Rattle.checker.specs.Run.{runAnswer, runOutputs}
+use Rattle.reading.specs.Run.{runAnswer, runOutputs}
 use Rattle.samples.proofs.OtherCounts.{lent-alike}
 use Rattle.samples.proofs.run_on_bytes.Statement.{statement}
 use Rattle.samples.proofs.run_on_bytes.Tie as tie

@@ -5,10 +5,10 @@ use mathlib.Core.List.{List}
 use native.Mathlib.Omega.{arith}
 use Rattle.layout.specs.Matrix.{matrixRefusal, rows, columns}
 use Rattle.layout.proofs.MatrixRefusal.{AcceptedMatrix, accepted-matrix}
-use Rattle.checker.specs.declared.ReadAnswer.{ReadAnswer}
-use Rattle.checker.specs.Read.{accepted, headAt, readNetlist, readAccepted}
-use Rattle.checker.specs.Check.{checked}
-use Rattle.checker.specs.Tests.{netlistIn}
+use Rattle.reading.specs.declared.ReadAnswer.{ReadAnswer}
+use Rattle.reading.specs.Read.{accepted, headAt, readNetlist, readAccepted}
+use Rattle.reading.specs.Check.{checked}
+use Rattle.reading.specs.Tests.{netlistIn}
 use Rattle.checker.specs.Tables.{NetlistHeld}
 use Rattle.checker.proofs.NetlistLaws.{answer-accepted}
 use Rattle.checker.proofs.CheckLaws.{matrix-declines, netlist-declines, rows-differ, columns-differ, sizes-agree}

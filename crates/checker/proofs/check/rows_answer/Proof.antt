@@ -14,12 +14,12 @@ use Rattle.layout.proofs.MatrixRefusal.{accepted-matrix}
 use Rattle.layout.proofs.MatrixRows.{matrix-length}
 use Rattle.width.specs.Machine.{outputForm}
 use Rattle.width.specs.Table.{outputRow}
-use Rattle.checker.specs.Read.{recordRefusal, headAt, outputPlace, outputAt}
-use Rattle.checker.specs.Check.{sameRow, rowsAnswer}
-use Rattle.checker.specs.Exact.{OutputLimits}
-use Rattle.checker.specs.Tests.{operationsIn, outputsIn}
+use Rattle.reading.specs.Read.{recordRefusal, headAt, outputPlace, outputAt}
+use Rattle.reading.specs.Check.{sameRow, rowsAnswer}
+use Rattle.reading.specs.Exact.{OutputLimits}
+use Rattle.reading.specs.Tests.{operationsIn, outputsIn}
 use Rattle.checker.specs.Tables.{NetlistHeld, SameSizes, RowReady, rowsMatched}
-use Rattle.checker.proofs.FirstRecords.{length-first}
+use Rattle.reading.proofs.FirstRecords.{length-first}
 use Rattle.checker.proofs.NetlistLaws.{head-limits, output-there}
 use Rattle.checker.proofs.CheckLaws.{row-same, row-differs, rows-end, row-compared, row-ready}
 use Rattle.checker.proofs.check.rows_answer.Statement.{statement}

@@ -13,7 +13,7 @@ use Rattle.layout.specs.declared.Output.{Output}
 use Rattle.layout.specs.Matrix.{coefficientsFrom}
 use Rattle.width.specs.Machine.{shifted, signed}
 use Rattle.width.specs.Table.{Small, coefficientAt, columnsFrom}
-use Rattle.checker.specs.Check.{sameRow}
+use Rattle.reading.specs.Check.{sameRow}
 use Rattle.checker.proofs.CheckLaws.{columns-start, column-same, column-differs, columns-end}
 use Rattle.checker.proofs.check.same_row.Statement.{statement}
 use Rattle.checker.proofs.check.same_row.Tie as tie

@@ -1,8 +1,8 @@
 -- `checker::read::head_in_range` meets its contract. Assumes nothing.
 use mathlib.Core.Path.{sym}
 use native.Mathlib.Omega.{arith}
-use Rattle.checker.specs.Read.{headInRange}
-use Rattle.checker.proofs.Conditions.{head-says}
+use Rattle.reading.specs.Read.{headInRange}
+use Rattle.reading.proofs.Conditions.{head-says}
 use Rattle.checker.proofs.RecordLaws.{fails}
 use Rattle.checker.proofs.read.head_in_range.Statement.{statement}
 use Rattle.checker.proofs.read.head_in_range.Tie as tie

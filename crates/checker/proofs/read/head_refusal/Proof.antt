@@ -1,6 +1,6 @@
 -- `checker::read::head_refusal` meets its contract. Assumes nothing.
 use mathlib.Core.Path.{_≡_, sym, ap, _∙_}
-use Rattle.checker.specs.Read.{headAt, headInRange, recordRefusal}
+use Rattle.reading.specs.Read.{headAt, headInRange, recordRefusal}
 use Rattle.checker.proofs.RecordLaws.{head-stops, head-outside, head-accepted}
 use borrow.Author.Needs.{needs}
 use Rattle.checker.proofs.read.head_refusal.Statement.{statement}

@@ -5,9 +5,9 @@ use mathlib.Core.List.{List}
 use Rattle.layout.specs.declared.Head.{Head}
 use Rattle.layout.specs.Records.{totalsOf}
 use Rattle.layout.specs.Step.{payloadAt}
-use Rattle.checker.specs.declared.ReadAnswer.{ReadAnswer}
-use Rattle.checker.specs.Read.{recordRefusal, headAt, headRefusal, readNetlist}
-use Rattle.checker.specs.Tests.{operationsIn, totalsPlace, netlistIn}
+use Rattle.reading.specs.declared.ReadAnswer.{ReadAnswer}
+use Rattle.reading.specs.Read.{recordRefusal, headAt, headRefusal, readNetlist}
+use Rattle.reading.specs.Tests.{operationsIn, totalsPlace, netlistIn}
 use Rattle.checker.specs.Tables.{NetlistHeld}
 use Rattle.checker.proofs.RecordLaws.{head-due, stop-answer, totals-due}
 use Rattle.checker.proofs.NetlistLaws.{head-declines, answer-refused, answer-accepted, answer-fields, place-is}

@@ -11,10 +11,10 @@ use Rattle.layout.specs.declared.Operation.{Operation}
 use Rattle.width.specs.Machine.{operationDepth}
 use Rattle.width.specs.Width.{width}
 use Rattle.width.specs.Table.{row, formAppended, SmallRange}
-use Rattle.checker.specs.Read.{recordRefusal, operationPlace, operationAt, operationInRange, operationWidth, widthRight}
-use Rattle.checker.specs.Exact.{OperationLimits}
+use Rattle.reading.specs.Read.{recordRefusal, operationPlace, operationAt, operationInRange, operationWidth, widthRight}
+use Rattle.reading.specs.Exact.{OperationLimits}
 use Rattle.checker.specs.Tables.{operationsBefore, FormsHeld, DepthsHeld}
-use Rattle.checker.proofs.Conditions.{operation-says}
+use Rattle.reading.proofs.Conditions.{operation-says}
 use Rattle.checker.proofs.RecordLaws.{width-says, operation-stops, operation-outside, operation-wide, operation-accepted}
 use Rattle.checker.proofs.HeldLaws.{operands-small, appended-width, appended-range, forms-appended, depth-asked, depths-appended}
 use borrow.Author.Needs.{needs}

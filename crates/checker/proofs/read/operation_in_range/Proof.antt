@@ -1,8 +1,8 @@
 -- `checker::read::operation_in_range` meets its contract. Assumes nothing.
 use mathlib.Core.Path.{sym}
 use native.Mathlib.Omega.{arith}
-use Rattle.checker.specs.Read.{operationInRange}
-use Rattle.checker.proofs.Conditions.{operation-says}
+use Rattle.reading.specs.Read.{operationInRange}
+use Rattle.reading.proofs.Conditions.{operation-says}
 use Rattle.checker.proofs.RecordLaws.{fails}
 use borrow.Author.Needs.{needs}
 use Rattle.checker.proofs.read.operation_in_range.Statement.{statement}

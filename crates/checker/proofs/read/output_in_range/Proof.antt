@@ -1,8 +1,8 @@
 -- `checker::read::output_in_range` meets its contract. Assumes nothing.
 use mathlib.Core.Path.{sym}
 use native.Mathlib.Omega.{arith}
-use Rattle.checker.specs.Read.{outputInRange}
-use Rattle.checker.proofs.Conditions.{output-says}
+use Rattle.reading.specs.Read.{outputInRange}
+use Rattle.reading.proofs.Conditions.{output-says}
 use Rattle.checker.proofs.RecordLaws.{fails}
 use borrow.Author.Needs.{needs}
 use Rattle.checker.proofs.read.output_in_range.Statement.{statement}

@@ -10,11 +10,11 @@ use Rattle.layout.specs.declared.Operation.{Operation}
 use Rattle.layout.specs.declared.Output.{Output}
 use Rattle.width.specs.Width.{width}
 use Rattle.width.specs.Table.{outputRow}
-use Rattle.checker.specs.Read.{recordRefusal, operationAt, outputPlace, outputAt, outputInRange, outputWidth, widthRight}
-use Rattle.checker.specs.Exact.{OutputLimits}
+use Rattle.reading.specs.Read.{recordRefusal, operationAt, outputPlace, outputAt, outputInRange, outputWidth, widthRight}
+use Rattle.reading.specs.Exact.{OutputLimits}
 use Rattle.checker.specs.Tables.{operationsBefore}
-use Rattle.checker.proofs.FirstRecords.{length-first}
-use Rattle.checker.proofs.Conditions.{output-says}
+use Rattle.reading.proofs.FirstRecords.{length-first}
+use Rattle.reading.proofs.Conditions.{output-says}
 use Rattle.checker.proofs.RecordLaws.{output-stops, output-outside, output-wide, output-accepted}
 use Rattle.checker.proofs.HeldLaws.{output-row-width, output-range}
 use borrow.Author.Needs.{needs}

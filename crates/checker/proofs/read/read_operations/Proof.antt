@@ -4,8 +4,8 @@ use Prim.Native.Nat.{ℕ, _-_, _≤_}
 use mathlib.Core.List.{List, []}
 use native.Mathlib.Omega.{arith}
 use native.Mathlib.Numerals.{add-one}
-use Rattle.checker.specs.Read.{accepted, readRecords, operationPlace, operationAt, operationRefusal}
-use Rattle.checker.specs.Tests.{firstRecords}
+use Rattle.reading.specs.Read.{accepted, readRecords, operationPlace, operationAt, operationRefusal}
+use Rattle.reading.specs.Tests.{firstRecords}
 use Rattle.checker.specs.Tables.{FormsHeld, DepthsHeld, refusalOf}
 use Rattle.checker.proofs.RecordLaws.{records-start, records-stop, records-next, records-end, stop-answer}
 use Rattle.checker.proofs.read.read_operations.Statement.{statement}

@@ -6,10 +6,10 @@ use native.Mathlib.Omega.{arith}
 use native.Mathlib.Numerals.{add-one}
 use lib.ListN.{length}
 use Rattle.layout.specs.declared.Output.{Output}
-use Rattle.checker.specs.Read.{Reading, refused, accepted, readRecords, operationAt, outputPlace, outputAt, outputRefusal}
-use Rattle.checker.specs.Tests.{firstRecords}
+use Rattle.reading.specs.Read.{Reading, refused, accepted, readRecords, operationAt, outputPlace, outputAt, outputRefusal}
+use Rattle.reading.specs.Tests.{firstRecords}
 use Rattle.checker.specs.Tables.{operationsBefore, refusalOf}
-use Rattle.checker.proofs.FirstRecords.{length-first}
+use Rattle.reading.proofs.FirstRecords.{length-first}
 use Rattle.checker.proofs.RecordLaws.{records-start, records-stop, records-next, records-end, stop-answer}
 use Rattle.checker.proofs.read.read_outputs.Statement.{statement}
 use Rattle.checker.proofs.read.read_outputs.Tie as tie

@@ -5,9 +5,9 @@ use mathlib.Core.List.{List}
 use native.Mathlib.Omega.{arith}
 use lib.IntN.{ℤ}
 use Rattle.layout.specs.declared.Head.{Head}
-use Rattle.checker.specs.Read.{refused, accepted, headAt, headRefusal, readOperations, readOutputs, readNetlist, totalsRefusal}
-use Rattle.checker.specs.Exact.{HeadLimits}
-use Rattle.checker.specs.Tests.{operationsIn, outputsIn, totalsPlace, netlistIn}
+use Rattle.reading.specs.Read.{refused, accepted, headAt, headRefusal, readOperations, readOutputs, readNetlist, totalsRefusal}
+use Rattle.reading.specs.Exact.{HeadLimits}
+use Rattle.reading.specs.Tests.{operationsIn, outputsIn, totalsPlace, netlistIn}
 use Rattle.checker.specs.Tables.{operationsBefore, FormsHeld, OperationsRead, OutputsRead, refusalOf}
 use Rattle.checker.proofs.RecordLaws.{head-due, stop-answer}
 use Rattle.checker.proofs.HeldLaws.{forms-started, depths-started}

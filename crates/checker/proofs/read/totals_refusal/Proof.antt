@@ -6,7 +6,7 @@ use Rattle.layout.specs.declared.Head.{Head}
 use Rattle.layout.specs.declared.Operation.{Operation}
 use Rattle.layout.specs.declared.Totals.{Totals}
 use Rattle.width.specs.Machine.{depth}
-use Rattle.checker.specs.Read.{recordRefusal, totalsAt}
+use Rattle.reading.specs.Read.{recordRefusal, totalsAt}
 use Rattle.checker.specs.Tables.{operationsBefore}
 use Rattle.checker.proofs.RecordLaws.{totals-stop, totals-differ, totals-accepted}
 use Rattle.checker.proofs.HeldLaws.{depth-held}

@@ -1,7 +1,7 @@
 -- `checker::read::width_right` meets its contract. Assumes nothing.
 use mathlib.Core.Path.{sym}
 use native.Mathlib.Omega.{arith}
-use Rattle.checker.specs.Read.{widthRight}
+use Rattle.reading.specs.Read.{widthRight}
 use Rattle.checker.proofs.RecordLaws.{fails, width-says}
 use Rattle.checker.proofs.read.width_right.Statement.{statement}
 use Rattle.checker.proofs.read.width_right.Tie as tie

@@ -15,9 +15,9 @@ use Rattle.layout.specs.declared.Output.{Output}
 use Rattle.width.specs.Machine.{entryAt, shifted, signed, outputValue}
 use Rattle.width.specs.Table.{Small}
 use Rattle.width.proofs.TableLaws.{sets-none}
-use Rattle.checker.specs.Read.{recordRefusal, headAt, outputPlace, outputAt}
-use Rattle.checker.specs.Exact.{OutputLimits}
-use Rattle.checker.specs.Tests.{outputsIn}
+use Rattle.reading.specs.Read.{recordRefusal, headAt, outputPlace, outputAt}
+use Rattle.reading.specs.Exact.{OutputLimits}
+use Rattle.reading.specs.Tests.{outputsIn}
 use Rattle.checker.specs.Tables.{NetlistRead}
 use Rattle.checker.proofs.NetlistLaws.{head-limits, output-there}
 use Rattle.checker.proofs.BoardLaws.{result-at, results-count, set-next, all-set}

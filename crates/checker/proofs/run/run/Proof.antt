@@ -7,11 +7,11 @@ use lib.IntN.{ℤ, pos}
 use lib.ListN.{length, take}
 use Rattle.width.specs.Machine.{machine}
 use Rattle.width.specs.Width.{Samples}
-use Rattle.checker.specs.declared.ReadAnswer.{ReadAnswer}
-use Rattle.checker.specs.Read.{accepted, headAt, readNetlist, readAccepted}
-use Rattle.checker.specs.Tests.{operationsIn, netlistIn}
+use Rattle.reading.specs.declared.ReadAnswer.{ReadAnswer}
+use Rattle.reading.specs.Read.{accepted, headAt, readNetlist, readAccepted}
+use Rattle.reading.specs.Tests.{operationsIn, netlistIn}
 use Rattle.checker.specs.Tables.{NetlistRead, BoardReady}
-use Rattle.checker.proofs.HeldLaws.{length-filled}
+use Rattle.width.proofs.TableLaws.{length-filled}
 use Rattle.checker.proofs.NetlistLaws.{head-limits, answer-accepted}
 use Rattle.checker.proofs.BoardLaws.{value-small, outputs-same, run-declines, samples-differ, outputs-differ, counts-agree}
 use borrow.Author.Needs.{needs}
@@ -87,7 +87,7 @@ blank-values-requires c κs = search needs
 
 start-values-requires : tie.Need-start-values-requires
 start-values-requires c κs = let v = c .before in let x = v .before .before in let e = x .before .before .before .before in
-    (omega (arith, x .before .if2 .left, n-is e, head-limits (b (d e)) (N e) .columns-most), ap (λ (l : List ℤ). length l) (v .blank-values .ensures) ∙ length-filled 512 (pos 0))
+    (omega (arith, x .before .if2 .left, n-is e, head-limits (b (d e)) (N e) .columns-most), ap (λ (l : List ℤ). length l) (v .blank-values .ensures) ∙ length-filled (pos 0) 512)
 
 -- the samples are in the table
 module _ (c : tie.After-start-values) where

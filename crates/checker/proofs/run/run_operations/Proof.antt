@@ -9,8 +9,8 @@ use lib.ListN.{take}
 use Rattle.layout.specs.declared.Operation.{Operation}
 use Rattle.width.specs.Machine.{machine}
 use Rattle.width.specs.Table.{valueAppended}
-use Rattle.checker.specs.Read.{headAt, operationAt}
-use Rattle.checker.specs.Exact.{OperationLimits}
+use Rattle.reading.specs.Read.{headAt, operationAt}
+use Rattle.reading.specs.Exact.{OperationLimits}
 use Rattle.checker.specs.Tables.{operationsBefore, NetlistRead}
 use Rattle.checker.proofs.NetlistLaws.{head-limits, operation-there}
 use Rattle.checker.proofs.BoardLaws.{BoardAt, board-started, board-small, board-next}

@@ -8,7 +8,7 @@ use native.Mathlib.Numerals.{add-one}
 use lib.ListN.{length, getD, drop}
 use Rattle.layout.specs.declared.Operation.{Operation}
 use Rattle.compiler.specs.Lists.{divisorsList, noDivisor, operationsList}
-use Rattle.compiler.specs.Chains.{divisorOperation}
+use Rattle.compilation.specs.Chains.{divisorOperation}
 use Rattle.compiler.proofs.ChainLaws.{snoc-length, map-next, map-end}
 use Rattle.compiler.proofs.chain.divisor_operations.Statement.{statement}
 use Rattle.compiler.proofs.chain.divisor_operations.Tie as tie

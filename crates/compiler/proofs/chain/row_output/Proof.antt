@@ -3,7 +3,7 @@ use borrow.Author.Needs.{needs}
 use native.Mathlib.Omega.{arith}
 use mathlib.Core.Path.{ap, _∙_}
 use Rattle.eliminate.specs.State.{rowTerms}
-use Rattle.compiler.specs.Chains.{signOf}
+use Rattle.compilation.specs.Chains.{signOf}
 use Rattle.compiler.proofs.ChainLaws.{output-none, output-one-is, output-more-is}
 use Rattle.compiler.proofs.chain.row_output.Statement.{statement}
 use Rattle.compiler.proofs.chain.row_output.Tie as tie

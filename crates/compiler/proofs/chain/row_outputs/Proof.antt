@@ -10,7 +10,7 @@ use Rattle.layout.specs.declared.Output.{Output}
 use Rattle.elimination.specs.Rows.{Row, plainCount}
 use Rattle.eliminate.specs.State.{rowTerms, rowsTerms}
 use Rattle.compiler.specs.Lists.{outputsList}
-use Rattle.compiler.specs.Chains.{rowOutput, rowOutputs}
+use Rattle.compilation.specs.Chains.{rowOutput, rowOutputs}
 use Rattle.compiler.proofs.ChainLaws.{snoc-length, plain-next, outputs-next, outputs-end}
 use Rattle.compiler.proofs.chain.row_outputs.Statement.{statement}
 use Rattle.compiler.proofs.chain.row_outputs.Tie as tie

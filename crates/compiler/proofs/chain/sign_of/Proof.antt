@@ -1,6 +1,6 @@
 -- `compiler::chain::sign_of` meets its contract. Assumes nothing.
 use mathlib.Core.Path.{sym, ap}
-use Rattle.compiler.specs.Chains.{signOf}
+use Rattle.compilation.specs.Chains.{signOf}
 use Rattle.compiler.proofs.chain.sign_of.Statement.{statement}
 use Rattle.compiler.proofs.chain.sign_of.Tie as tie
 

@@ -9,7 +9,7 @@ use lib.ListN.{length, getD, drop}
 use Rattle.layout.specs.declared.Operation.{Operation}
 use Rattle.eliminate.specs.State.{rowTerms, noTerm}
 use Rattle.compiler.specs.Lists.{operationsList}
-use Rattle.compiler.specs.Chains.{chainFrom}
+use Rattle.compilation.specs.Chains.{chainFrom}
 use Rattle.compiler.proofs.ChainLaws.{snoc-length, summed, chain-next, chain-end, chain-begins, chain-none}
 use Rattle.compiler.proofs.chain.with_chain.Statement.{statement}
 use Rattle.compiler.proofs.chain.with_chain.Tie as tie

@@ -9,7 +9,7 @@ use lib.ListN.{length, getD, drop, length-append}
 use Rattle.elimination.specs.Rows.{Row, plainCount}
 use Rattle.eliminate.specs.State.{rowsTerms}
 use Rattle.compiler.specs.Lists.{operationsList}
-use Rattle.compiler.specs.Chains.{chain, chains}
+use Rattle.compilation.specs.Chains.{chain, chains}
 use Rattle.compiler.proofs.ChainLaws.{length-chain, plain-next, chains-next, chains-end}
 use Rattle.compiler.proofs.chain.with_chains.Statement.{statement}
 use Rattle.compiler.proofs.chain.with_chains.Tie as tie

@@ -13,10 +13,11 @@ use Rattle.elimination.specs.Rows.{Row, matrixRows, plainCount}
 use Rattle.elimination.specs.Elimination.{Eliminated, smallestFirst, elimination}
 use Rattle.eliminate.specs.State.{rowsTerms, Ready}
 use Rattle.compiler.specs.Lists.{divisorsList, operationsList}
-use Rattle.compiler.specs.Chains.{divisorOperation}
-use Rattle.compiler.specs.Compile.{positions, eliminationOf}
+use Rattle.compilation.specs.Chains.{divisorOperation}
+use Rattle.compilation.specs.Compile.{positions, eliminationOf}
 use Rattle.compiler.specs.Planned.{eliminatedOf}
-use Rattle.compiler.proofs.PlanLaws.{plain-most, ready, operations-sum, remaining-few, operations-of, outputs-of, elimination-is}
+use Rattle.compilation.proofs.Compiled.{plain-most}
+use Rattle.compiler.proofs.PlanLaws.{ready, operations-sum, remaining-few, operations-of, outputs-of, elimination-is}
 use Rattle.compiler.proofs.planned.plan.Statement.{statement}
 use Rattle.compiler.proofs.planned.plan.Tie as tie
 

@@ -14,7 +14,8 @@ use Rattle.digits.specs.Digits.{digits}
 use Rattle.layout.specs.Matrix.{coefficientAt, coefficientsFrom}
 use Rattle.elimination.specs.Rows.{columnTerms, rowFrom}
 use Rattle.eliminate.specs.State.{rowTerms}
-use Rattle.compiler.proofs.RowLaws.{column-few, columns-next, columns-end}
+use Rattle.elimination.proofs.Counts.{column-few}
+use Rattle.compiler.proofs.RowLaws.{columns-next, columns-end}
 use Rattle.compiler.proofs.rows.matrix_row.Statement.{statement}
 use Rattle.compiler.proofs.rows.matrix_row.Tie as tie
 
@@ -65,7 +66,7 @@ loop-again c =
     let f : z ≡ coefficientAt (s .args .bytes .now) (s .args .index + j) = call-result w16 (c .before .coefficient .ok) (c .before .coefficient .ensures) in
     rw (add-one j) (
       omega arith,
-      omega (arith, ap length e, length-append row (columnTerms j 0 (digits 16 z)), column-few j 8 z, L .loop .inv .1),
+      omega (arith, ap length e, length-append row (columnTerms j 0 (digits 16 z)), column-few 8 j z, L .loop .inv .1),
       columns-next 16 (s .args .bytes .now) (s .args .index) j (s .args .n) z row after h f e ∙ L .loop .inv .2,
     )
 

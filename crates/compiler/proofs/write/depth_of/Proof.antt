@@ -10,9 +10,10 @@ use lib.Seq.{take-all}
 use Rattle.layout.specs.declared.Operation.{Operation}
 use Rattle.width.specs.Machine.{depths, depth, operationDepth}
 use Rattle.width.proofs.DepthLaws.{depth-none}
+use Rattle.width.proofs.TableLaws.{length-filled}
 use Rattle.compiler.specs.Lists.{operationsList, noOperation}
 use Rattle.compiler.specs.Tables.{Writable}
-use Rattle.compiler.proofs.WriteLaws.{depths-start, length-no-depths, depth-small, depths-next, depth-next}
+use Rattle.compiler.proofs.WriteLaws.{depths-start, depth-small, depths-next, depth-next}
 use Rattle.compiler.proofs.write.depth_of.Statement.{statement}
 use Rattle.compiler.proofs.write.depth_of.Tie as tie
 
@@ -27,15 +28,15 @@ abbrev μ-loop : tie.MeasureT-loop
 count-requires : tie.Need-count-requires Inv-loop μ-loop
 count-requires c κs = search needs
 
-no-depths-requires : tie.Need-no-depths-requires Inv-loop μ-loop
-no-depths-requires c κs = search needs
+blank-depths-requires : tie.Need-blank-depths-requires Inv-loop μ-loop
+blank-depths-requires c κs = search needs
 
 loop-holds : tie.Need-loop-holds Inv-loop μ-loop
 loop-holds c =
     let s = c .before .before in
     let n = s .args .n in
     let few : n ≤ 512 = omega (arith, s .pre .inputs) in
-    (omega arith, ap length (c .no-depths .ensures) ∙ length-no-depths 512, ap (take (n + 0)) (c .no-depths .ensures) ∙ depths-start n 512 few, sym (depth-none n))
+    (omega arith, ap length (c .blank-depths .ensures) ∙ length-filled 0 512, ap (take (n + 0)) (c .blank-depths .ensures) ∙ depths-start n 512 few, sym (depth-none n))
 
 -- what is asked of the operations
 module _ (c : tie.In-loop Inv-loop μ-loop) where
@@ -80,8 +81,8 @@ mul-depths c = omega (arith, symbol-below (c .before .before .before))
 array-write-depths : tie.Need-array-write-depths Inv-loop μ-loop
 array-write-depths c = omega (arith, symbol-below (c .before .before .before))
 
-larger-requires : tie.Need-larger-requires Inv-loop μ-loop
-larger-requires c κs = search needs
+deeper-requires : tie.Need-deeper-requires Inv-loop μ-loop
+deeper-requires c κs = search needs
 
 add-k : tie.Need-add-k Inv-loop μ-loop
 add-k c = let g = c .before .before .before .before in omega (arith, symbol-below g)
@@ -104,7 +105,7 @@ loop-again c =
       omega (arith, g .loop-test .taken),
       length-set table (n + k) (d .operation-depth .result) ∙ L .loop .inv .1,
       ap (λ (x : ℕ). take (n + suc k) (set table (n + k) x)) e ∙ depths-next n (os g) w table k (inside g) (L .loop .inv .1) (L .loop .inv .2),
-      c .larger .ensures ∙ ap₂ max (L .loop .inv .3) e ∙ depth-next n (os g) w table k (inside g) (L .loop .inv .1) (L .loop .inv .2),
+      c .deeper .ensures ∙ ap₂ max (L .loop .inv .3) e ∙ depth-next n (os g) w table k (inside g) (L .loop .inv .1) (L .loop .inv .2),
     )
 
 returns : tie.Need-returns Inv-loop μ-loop
@@ -120,14 +121,14 @@ depth-of-spec =
     Inv-loop
     μ-loop
     count-requires
-    no-depths-requires
+    blank-depths-requires
     loop-holds
     operation-requires
     operation-depth-requires
     add-depths
     mul-depths
     array-write-depths
-    larger-requires
+    deeper-requires
     add-k
     loop-less
     loop-again

@@ -4,7 +4,7 @@ use native.Mathlib.Omega.{arith}
 use Prim.Native.Nat.{ℕ, _+_, _*_, _-_}
 use mathlib.Core.Path.{_≡_, sym, ap, ap₂, subst, _∙_}
 use mathlib.Core.List.{List, [], _++_, flatMap}
-use lib.IntN.{ℤ}
+use lib.IntN.{ℤ, pos}
 use lib.ListN.{length, take, drop, length-map}
 use Rattle.layout.specs.declared.Head.{Head}
 use Rattle.layout.specs.declared.Output.{Output}
@@ -12,13 +12,13 @@ use Rattle.layout.specs.Records.{headBytes, operationBytes, outputBytes, totals
 use Rattle.layout.specs.Written.{written}
 use Rattle.layout.proofs.Lengths.{length-head, length-operation, length-records}
 use Rattle.layout.proofs.Written.{written-start, length-written}
-use Rattle.width.specs.Table.{HoldsForms, formsStarted}
-use Rattle.width.proofs.TableLaws.{started-holds}
+use Rattle.width.specs.Table.{filled, HoldsForms, formsStarted}
+use Rattle.width.proofs.TableLaws.{length-filled, started-holds}
 use Rattle.compiler.specs.Lists.{operationsList, outputsList}
-use Rattle.compiler.specs.Compile.{sampleWidth, withWidths, outputWithWidth}
-use Rattle.compiler.specs.Tables.{recordedNetlist, noForms}
-use Rattle.compiler.proofs.Counts.{length-with-widths}
-use Rattle.compiler.proofs.WriteLaws.{length-no-forms, outputs-writable, table-widths, netlist-written}
+use Rattle.compilation.specs.Compile.{sampleWidth, withWidths, outputWithWidth}
+use Rattle.compiler.specs.Tables.{recordedNetlist}
+use Rattle.compilation.proofs.Counts.{length-with-widths}
+use Rattle.compiler.proofs.WriteLaws.{outputs-writable, table-widths, netlist-written}
 use Rattle.compiler.proofs.write.write_netlist.Statement.{statement}
 use Rattle.compiler.proofs.write.write_netlist.Tie as tie
 
@@ -31,8 +31,8 @@ cast-t14 c = search needs
 write-head-requires : tie.Need-write-head-requires
 write-head-requires c κs = search needs
 
-no-forms-requires : tie.Need-no-forms-requires
-no-forms-requires c κs = search needs
+blank-forms-requires : tie.Need-blank-forms-requires
+blank-forms-requires c κs = search needs
 
 start-forms-requires : tie.Need-start-forms-requires
 start-forms-requires c κs = search needs
@@ -49,8 +49,8 @@ head-length c =
 started : (c : tie.After-start-forms) → (let s = c .before .before .before .before .before .before .before .before .before in HoldsForms (s .args .n) [] (c .start-forms .last .0))
 started c =
     let s = c .before .before .before .before .before .before .before .before .before in
-    subst (HoldsForms (s .args .n) []) (sym (c .start-forms .ensures ∙ ap (λ (t : List ℤ). formsStarted t (s .args .n)) (c .before .before .no-forms .ensures)))
-    (started-holds (s .args .n) (noForms 4096) (s .pre .0 .0 .inputs) (length-no-forms 4096))
+    subst (HoldsForms (s .args .n) []) (sym (c .start-forms .ensures ∙ ap (λ (t : List ℤ). formsStarted t (s .args .n)) (c .before .before .blank-forms .ensures)))
+    (started-holds (s .args .n) (filled 4096 (pos 0)) (s .pre .0 .0 .inputs) (length-filled (pos 0) 4096))
 
 write-operations-requires : tie.Need-write-operations-requires
 write-operations-requires c κs =
@@ -151,7 +151,7 @@ write-netlist-spec =
     count-requires
     cast-t14
     write-head-requires
-    no-forms-requires
+    blank-forms-requires
     start-forms-requires
     write-operations-requires
     mul-place

@@ -9,7 +9,7 @@ use lib.ListN.{drop}
 use Rattle.layout.specs.Records.{operationBytes}
 use Rattle.width.specs.Width.{width}
 use Rattle.width.specs.Table.{row, operationRow, SmallRange}
-use Rattle.compiler.specs.Compile.{withWidth}
+use Rattle.compilation.specs.Compile.{withWidth}
 use Rattle.compiler.proofs.WriteLaws.{appended-row}
 use Rattle.compiler.proofs.write.write_operation.Statement.{statement}
 use Rattle.compiler.proofs.write.write_operation.Tie as tie

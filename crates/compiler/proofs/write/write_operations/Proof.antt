@@ -14,7 +14,7 @@ use Rattle.layout.specs.Written.{written}
 use Rattle.layout.proofs.Lengths.{length-operation}
 use Rattle.width.specs.Table.{HoldsForms, SmallForms, SmallRange, operationRow, formAppended}
 use Rattle.compiler.specs.Lists.{operationsList, noOperation}
-use Rattle.compiler.specs.Compile.{sampleWidth, withWidths}
+use Rattle.compilation.specs.Compile.{sampleWidth, withWidths}
 use Rattle.compiler.specs.Tables.{Writable}
 use Rattle.compiler.proofs.WriteLaws.{recordedFrom, recorded-end, small-forms, small-range, holds-next, operation-written, records-none}
 use Rattle.compiler.proofs.write.write_operations.Statement.{statement}

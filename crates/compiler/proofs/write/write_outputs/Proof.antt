@@ -11,7 +11,7 @@ use Rattle.layout.specs.Records.{outputBytes}
 use Rattle.layout.specs.Written.{written}
 use Rattle.width.specs.Table.{SmallRange, outputRow}
 use Rattle.compiler.specs.Lists.{outputsList, noOutput}
-use Rattle.compiler.specs.Compile.{sampleWidth}
+use Rattle.compilation.specs.Compile.{sampleWidth}
 use Rattle.compiler.specs.Tables.{WritableOutputs, withTableWidth}
 use Rattle.compiler.proofs.WriteLaws.{output-written, outputs-written}
 use Rattle.compiler.proofs.write.write_outputs.Statement.{statement}

@@ -6,8 +6,8 @@ use native.Mathlib.Omega.{arith}
 use lib.IntN.{ℤ}
 use lib.ListN.{length}
 use Rattle.layout.proofs.LittleEndian.{AreBytes}
-use Rattle.checker.specs.declared.RunAnswer.{RunAnswer}
-use Rattle.checker.specs.Run.{runAnswer}
+use Rattle.reading.specs.declared.RunAnswer.{RunAnswer}
+use Rattle.reading.specs.Run.{runAnswer}
 use Rattle.samples.specs.Samples.{samplesOf}
 use Rattle.ffi.specs.OutputBytes.{integerBytes}
 use Rattle.ffi.proofs.RunBytes.{Filled, lent-answer, run-kept, run-filled}

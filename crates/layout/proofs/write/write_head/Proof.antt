@@ -1,62 +1,27 @@
 -- `layout::write::write_head` meets its contract. Assumes nothing.
-use native.Mathlib.Omega.{arith}
-use lib.ListN.{length-set}
-use lib.Seq.{sets-eq}
-use Rattle.layout.specs.Records.{headPayload, headBytes}
 use borrow.Author.Needs.{needs}
+use Rattle.layout.specs.Records.{headPayload}
 use Rattle.layout.proofs.write.write_head.Statement.{statement}
 use Rattle.layout.proofs.write.write_head.Tie as tie
 
-slice-write-buf : tie.Need-slice-write-buf
-slice-write-buf c = search needs
+cast-t5 : tie.Need-cast-t5
+cast-t5 c = search needs
 
-slice-write-buf-2 : tie.Need-slice-write-buf-2
-slice-write-buf-2 c = simp length-set (omega arith)
+cast-t7 : tie.Need-cast-t7
+cast-t7 c = search needs
 
-slice-write-buf-3 : tie.Need-slice-write-buf-3
-slice-write-buf-3 c = simp length-set (omega arith)
+slice-aggregate-copy : tie.Need-slice-aggregate-copy
+slice-aggregate-copy c = search needs
 
-slice-write-buf-4 : tie.Need-slice-write-buf-4
-slice-write-buf-4 c = simp length-set (omega arith)
-
-slice-write-buf-5 : tie.Need-slice-write-buf-5
-slice-write-buf-5 c = simp length-set (omega arith)
-
-slice-write-buf-6 : tie.Need-slice-write-buf-6
-slice-write-buf-6 c = simp length-set (omega arith)
-
-cast-buf : tie.Need-cast-buf
-cast-buf c = search needs
-
-slice-write-buf-7 : tie.Need-slice-write-buf-7
-slice-write-buf-7 c = simp length-set (omega arith)
-
-cast-buf-2 : tie.Need-cast-buf-2
-cast-buf-2 c = search needs
-
-slice-write-buf-8 : tie.Need-slice-write-buf-8
-slice-write-buf-8 c = search needs
+copy-requires : tie.Need-copy-requires
+copy-requires c κs = search needs
 
 same-length : tie.Need-same-length
 same-length c = search needs
 
 returns : tie.Need-returns
 unfolding headPayload
-returns c = let s = c .before .before in sets-eq (headBytes (s .args .head)) (s .args .buf .now) 0 (omega arith)
+returns c = c .before .before .copy .ensures .1
 
 pub write-head-spec : {M : Type 1} → statement M
-write-head-spec =
-    tie.close
-    (tie.spec
-    slice-write-buf
-    slice-write-buf-2
-    slice-write-buf-3
-    slice-write-buf-4
-    slice-write-buf-5
-    slice-write-buf-6
-    cast-buf
-    slice-write-buf-7
-    cast-buf-2
-    slice-write-buf-8
-    same-length
-    returns)
+write-head-spec = tie.close (tie.spec cast-t5 cast-t7 slice-aggregate-copy copy-requires same-length returns)

@@ -1,0 +1,13 @@
+-- Laws of the netlist of a matrix, lowest first.
+pub mod Limits
+pub mod Sums
+pub mod Chains
+pub mod Counts
+pub mod Operands
+pub mod Values
+pub mod Widths
+pub mod Netlist
+pub mod Weights
+pub mod Narrow
+pub mod Compiled
+pub mod Marked

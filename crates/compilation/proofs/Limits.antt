@@ -1,0 +1,63 @@
+-- Document 01, "Matrix record": an accepted record's matrix is within the limits, and what elimination asks of a matrix follows.
+-- Assumes nothing.
+use Prim.Native.Nat.{ℕ, zero, suc, _+_, _*_, _-_, _^_, _≤_}
+use mathlib.Core.Path.{_≡_, refl, ap}
+use mathlib.Core.List.{List, [], _∷_}
+use native.Mathlib.Omega.{arith}
+use native.Mathlib.Nat.{pow-succ'}
+use lib.IntN.{ℤ, natAbs}
+use lib.ListN.{length}
+use Rattle.layout.specs.Matrix.{matrixRefusal, matrix, rows, columns, coefficientsFrom, rowsFrom}
+use Rattle.layout.proofs.LittleEndian.{AreBytes}
+use Rattle.layout.proofs.MatrixRefusal.{AcceptedMatrix, accepted-matrix}
+use Rattle.layout.proofs.MatrixRows.{coefficient-range, matrix-length}
+use Rattle.width.specs.Width.{Within}
+use Rattle.width.proofs.WidthLaws.{within-size}
+use Rattle.elimination.proofs.Order.{Columns}
+use Rattle.elimination.proofs.Matrix.{Enough}
+use Rattle.compilation.specs.Limits.{CoefficientsWithin, RowsWithin, WithinLimits}
+
+-- ---- what elimination asks: rows of n coefficients, for each of which the positions are enough
+
+pub rows-columns : (bits n : ℕ) (m : List (List ℤ)) → RowsWithin bits n m → Columns n m
+rows-columns bits n [] h = tt
+rows-columns bits n (row ∷ m) h = (h .0 .0, rows-columns bits n m (h .1))
+
+enough-positions : (positions : ℕ) (z : ℤ) → 1 ≤ positions → Within positions z → 3 * natAbs z ≤ 2 ^ suc positions
+enough-positions zero z some h = absurd (omega arith)
+enough-positions (suc positions) z some h =
+    let less : suc positions - 1 ≡ positions = omega arith in
+    omega (arith, within-size h, ap (λ (k : ℕ). 2 ^ k) less, pow-succ' 2 (suc positions), pow-succ' 2 positions)
+
+pub coefficients-enough : (positions : ℕ) (row : List ℤ) → 1 ≤ positions → CoefficientsWithin positions row → Enough positions row
+coefficients-enough positions [] some h = tt
+coefficients-enough positions (z ∷ row) some h = (enough-positions positions z some (h .0), coefficients-enough positions row some (h .1))
+
+-- ---- an accepted record's matrix
+
+module _ (b : List ℕ) (all : AreBytes b) where
+  coefficients-within : (index k : ℕ) → (length (coefficientsFrom b index k) ≡ k) × CoefficientsWithin 16 (coefficientsFrom b index k)
+  unfolding coefficientsFrom
+  coefficients-within index zero = (refl, tt)
+  coefficients-within index (suc k) =
+      let here = coefficient-range b all index in
+      let others = coefficients-within (index + 1) k in
+      (ap suc (others .0), (record { low = here .0; high = here .1 }, others .1))
+
+  rows-within : (n index k : ℕ) → RowsWithin 16 n (rowsFrom b n index k)
+  unfolding rowsFrom
+  rows-within n index zero = tt
+  rows-within n index (suc k) = (coefficients-within index n, rows-within n (index + n) k)
+
+  pub accepted-within : matrixRefusal b ≡ 0 → WithinLimits 16 (rows b) (columns b) (matrix b)
+  unfolding matrix
+  accepted-within h =
+      let a : AcceptedMatrix b = accepted-matrix b h in
+      record {
+        rows-least = a .rows-least;
+        rows-most = a .rows-most;
+        columns-least = a .columns-least;
+        columns-most = a .columns-most;
+        one-per-row = matrix-length b;
+        coefficients = rows-within (columns b) 0 (rows b);
+      }

@@ -1,0 +1,6 @@
+pub mod Chains
+pub mod Compile
+pub mod Sums
+pub mod Limits
+pub mod Compiled
+pub mod Marked

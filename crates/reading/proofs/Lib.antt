@@ -1,0 +1,11 @@
+-- Theorems about reading, checking and running a netlist, lowest first.
+pub mod FirstRecords
+pub mod TestLaws
+pub mod Conditions
+pub mod ReadTests
+pub mod ReadAccepts
+pub mod NetlistBytes
+pub mod Coefficients
+pub mod CheckTests
+pub mod CheckAccepts
+pub mod RunLaws

@@ -1,0 +1,5 @@
+pub mod Read
+pub mod Check
+pub mod Run
+pub mod Exact
+pub mod Tests
