@@ -10,8 +10,9 @@ mod times;
 use std::path::{Path, PathBuf};
 use std::{env, fs};
 
-use bench::{Call, CALLS};
+use bench::{Call, CALLS, SIDES};
 use plot::{page, Panel};
+use programs::Figures;
 use times::{Banks, Times};
 
 /// Between these lines docs/BENCHMARKS.md is written anew.
@@ -21,22 +22,43 @@ const END: &str = "<!-- measured: end -->";
 const TITLE: &str = "Time per call of the verified library and of the independent implementation: medians over random banks, \
                      both axes logarithmic";
 
-/// Times for banks of one size and coefficient size.
+/// Sizes and coefficient sizes that are measured: growing banks, then growing coefficients. The last is the largest.
+const MEASURED: [(usize, u32); 11] = [
+    (1, 16),
+    (2, 16),
+    (3, 16),
+    (4, 16),
+    (5, 16),
+    (6, 16),
+    (7, 16),
+    (8, 4),
+    (8, 8),
+    (8, 12),
+    (8, 16),
+];
+
+const ROUNDS: usize = 15;
+const BANKS: usize = 21;
+
+/// Figures for banks of one size and coefficient size.
 pub struct Growth {
     size: usize,
     bits: u32,
     operations: f64,
+    /// Of compile: verified, independent.
+    instructions: [f64; 2],
     compile: Times,
     read: Times,
 }
 
 impl Growth {
-    fn measured(size: usize, bits: u32) -> Self {
-        let mut banks = Banks::new(size, size, bits, 21, 5);
+    fn of(size: usize, bits: u32, banks: &Banks, folder: &Path) -> Self {
+        let count = |side| programs::instructions(folder, Call::Compile, side, size, bits);
         Growth {
             size,
             bits,
             operations: banks.operations(),
+            instructions: SIDES.map(count),
             compile: banks.times(Call::Compile),
             read: banks.times(Call::Read),
         }
@@ -49,11 +71,16 @@ fn main() {
     let folder = program.parent().expect("this program's folder");
     let machine = machine::description(&root);
 
-    let mut largest = Banks::new(8, 8, 16, 41, 9);
-    let calls: Vec<Times> = CALLS.iter().map(|&call| largest.times(call)).collect();
-    let sizes: Vec<Growth> = (1..=8).map(|size| Growth::measured(size, 16)).collect();
-    let bits: Vec<Growth> = [4, 8, 12, 16].map(|bits| Growth::measured(8, bits)).into();
-    let instructions = programs::instructions(folder);
+    let banks = |(size, bits)| Banks::new(size, size, bits, BANKS, &CALLS);
+    let mut all = MEASURED.map(banks);
+    times::measure(&mut all, ROUNDS);
+    let calls = CALLS.map(|call| all[MEASURED.len() - 1].times(call));
+    let growth = |(&(size, bits), banks)| Growth::of(size, bits, banks, folder);
+    let growths: Vec<Growth> = MEASURED.iter().zip(&all).map(growth).collect();
+    let sizes: Vec<&Growth> = growths.iter().filter(|g| g.bits == 16).collect();
+    let bits: Vec<&Growth> = growths.iter().filter(|g| g.size == 8).collect();
+    let count = |call, side| programs::instructions(folder, call, side, 8, 16);
+    let instructions = Figures::of(count);
     let memory = programs::memory(folder);
 
     let mut text = String::new();
@@ -72,7 +99,7 @@ fn main() {
     println!("{text}");
 }
 
-fn panels(sizes: &[Growth], bits: &[Growth]) -> Vec<Panel> {
+fn panels(sizes: &[&Growth], bits: &[&Growth]) -> Vec<Panel> {
     let area = |g: &Growth| (g.size * g.size) as f64;
     let width = |g: &Growth| f64::from(g.bits);
     let areas = vec![1.0, 4.0, 9.0, 16.0, 25.0, 36.0, 64.0];

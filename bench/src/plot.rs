@@ -9,7 +9,7 @@ const LEFT: f64 = 70.0;
 const TOP: f64 = 60.0;
 const WIDTH: f64 = 300.0;
 const BOTTOM: f64 = 360.0;
-const STRIDE: f64 = 430.0;
+const STRIDE: f64 = 460.0;
 
 const DARK: &str = "#222";
 const GREY: &str = "#ddd";
@@ -144,17 +144,17 @@ impl Svg {
         ));
     }
 
-    /// The curves' names at their last points: one above, the other below.
+    /// The curves' names behind their last points.
     fn names(&mut self, panel: &Panel, left: f64) {
         let (across, upward) = (panel.across(left), panel.upward());
         let ends = [
-            ("verified", VERIFIED, panel.verified.last(), -10.0),
-            ("independent", INDEPENDENT, panel.independent.last(), 20.0),
+            ("verified", VERIFIED, panel.verified.last()),
+            ("independent", INDEPENDENT, panel.independent.last()),
         ];
-        for (name, colour, last, below) in ends {
+        for (name, colour, last) in ends {
             if let Some((x, y)) = last {
-                let at = (across.at(*x) - 6.0, upward.at(*y) + below);
-                self.text(at, "end", colour, name);
+                let at = (across.at(*x) + 8.0, upward.at(*y) + 4.0);
+                self.text(at, "start", colour, name);
             }
         }
     }

@@ -7,13 +7,13 @@ use std::process::Command;
 use bench::{Call, Side, CALLS, SIDES};
 
 /// How many banks callgrind counts.
-const COUNTED: f64 = 10.0;
+const COUNTED: f64 = 6.0;
 
 /// Figures for each call and side.
 pub struct Figures<T>(HashMap<(&'static str, &'static str), T>);
 
 impl<T: Copy> Figures<T> {
-    fn of(mut figure: impl FnMut(Call, Side) -> T) -> Self {
+    pub fn of(mut figure: impl FnMut(Call, Side) -> T) -> Self {
         let mut figures = HashMap::new();
         for call in CALLS {
             for side in SIDES {
@@ -32,22 +32,21 @@ impl<T: Copy> Figures<T> {
     }
 }
 
-/// Instructions of one call.
-pub fn instructions(folder: &Path) -> Figures<f64> {
-    Figures::of(|call, side| {
-        let output = Command::new("valgrind")
-            .args(["--tool=callgrind", "--toggle-collect=measured"])
-            .arg("--callgrind-out-file=/dev/null")
-            .arg(folder.join("instructions"))
-            .args([call.name(), side.name(), &COUNTED.to_string()])
-            .output()
-            .expect("valgrind runs");
-        let printed = String::from_utf8_lossy(&output.stderr).into_owned();
-        let line = printed.lines().find(|line| line.contains("Collected :"));
-        let count = line.and_then(|line| line.split_whitespace().last());
-        let count: f64 = count.and_then(|word| word.parse().ok()).expect("a count");
-        count / COUNTED
-    })
+/// Instructions of one call on banks of a size and coefficient size.
+pub fn instructions(folder: &Path, call: Call, side: Side, size: usize, bits: u32) -> f64 {
+    let output = Command::new("valgrind")
+        .args(["--tool=callgrind", "--toggle-collect=measured"])
+        .arg("--callgrind-out-file=/dev/null")
+        .arg(folder.join("instructions"))
+        .args([call.name(), side.name()])
+        .args([COUNTED.to_string(), size.to_string(), bits.to_string()])
+        .output()
+        .expect("valgrind runs");
+    let printed = String::from_utf8_lossy(&output.stderr).into_owned();
+    let line = printed.lines().find(|line| line.contains("Collected :"));
+    let count = line.and_then(|line| line.split_whitespace().last());
+    let count: f64 = count.and_then(|word| word.parse().ok()).expect("a count");
+    count / COUNTED
 }
 
 /// Peak bytes of one call.

@@ -37,19 +37,22 @@ pub fn ratios(text: &mut String, calls: &[Times], instructions: &Figures<f64>) {
     text.push('\n');
 }
 
-pub fn growth(text: &mut String, what: &str, rows: &[Growth], label: impl Fn(&Growth) -> String) {
+pub fn growth(text: &mut String, what: &str, rows: &[&Growth], label: impl Fn(&Growth) -> String) {
     let _ = writeln!(text, "## Growth with {what}\n");
-    let sides = ["verified", "independent"];
     let calls = [
-        &["compile, ratio"],
-        &sides[..],
-        &["read, ratio"],
-        &sides[..],
-    ]
-    .concat();
+        "compile: instructions, ratio",
+        "time, ratio",
+        "verified",
+        "independent",
+        "read: time, ratio",
+        "verified",
+        "independent",
+    ];
     header(text, &[&[what, "Operations"], &calls[..]].concat());
     for growth in rows {
+        let counted = growth.instructions;
         let mut cells = vec![label(growth), growth.operations.to_string()];
+        cells.push(format!("{:.1}", counted[0] / counted[1]));
         for times in [&growth.compile, &growth.read] {
             cells.push(format!("{:.1}", times.ratio));
             cells.push(seconds(times.verified));

@@ -1,11 +1,11 @@
-//! Time of the calls. Both sides are measured in turn on the same bank, the order changing from round to round; a figure is
-//! the median over the banks of each bank's median over the rounds, and a ratio is the median of the banks' ratios. The clock
-//! is the thread's processor time, which other work on the machine disturbs less than the time of day.
+//! Time of the calls. A round measures everything once, both sides in turn on the same bank, the order changing from round to
+//! round; a figure is the median over the banks of each bank's median over the rounds, and a ratio is the median of the banks'
+//! ratios. The clock is the thread's processor time, which other work on the machine disturbs less than the time of day.
 
 use bench::{seeds, Call, Input, Side, SIDES};
 
 /// The least time that is taken as one measurement; shorter calls are repeated within it.
-const LEAST: f64 = 200e-6;
+const LEAST: f64 = 500e-6;
 
 /// Times of one call, in seconds.
 pub struct Times {
@@ -14,20 +14,37 @@ pub struct Times {
     pub ratio: f64,
 }
 
-/// Banks of one size and kind.
+/// Banks of one size and coefficient size, and what was measured of them so far.
 pub struct Banks {
     inputs: Vec<Input>,
-    rounds: usize,
+    measured: Vec<Measured>,
+}
+
+/// One call on one bank; figures in the order of the sides.
+struct Measured {
+    call: Call,
+    input: usize,
+    repeats: [usize; 2],
+    times: [Vec<f64>; 2],
 }
 
 impl Banks {
-    pub fn new(m: usize, n: usize, bits: u32, count: usize, rounds: usize) -> Self {
-        Banks {
-            inputs: seeds(count)
-                .map(|seed| Input::of_seed(seed, m, n, bits))
-                .collect(),
-            rounds,
+    /// So many banks, for these calls to be measured on.
+    pub fn new(m: usize, n: usize, bits: u32, count: usize, calls: &[Call]) -> Self {
+        let input = |seed| Input::of_seed(seed, m, n, bits);
+        let mut inputs: Vec<Input> = seeds(count).map(input).collect();
+        let mut measured = Vec::new();
+        for &call in calls {
+            for (index, input) in inputs.iter_mut().enumerate() {
+                measured.push(Measured {
+                    call,
+                    input: index,
+                    repeats: SIDES.map(|side| repeats(input, call, side)),
+                    times: [Vec::new(), Vec::new()],
+                });
+            }
         }
+        Banks { inputs, measured }
     }
 
     /// The median number of operations.
@@ -35,32 +52,43 @@ impl Banks {
         median(self.inputs.iter().map(|i| i.operations as f64).collect())
     }
 
-    pub fn times(&mut self, call: Call) -> Times {
-        let rounds = self.rounds;
-        let inputs = self.inputs.iter_mut();
-        let of_banks: Vec<[f64; 2]> = inputs.map(|i| of_bank(i, call, rounds)).collect();
+    /// Measures every call on every bank once more, both sides in turn.
+    fn measure(&mut self, round: usize) {
+        for one in &mut self.measured {
+            let input = &mut self.inputs[one.input];
+            for turn in 0..2 {
+                let side = (round + turn) % 2;
+                let time = time(input, one.call, SIDES[side], one.repeats[side]);
+                one.times[side].push(time);
+            }
+        }
+    }
+
+    /// The medians of what was measured of a call.
+    pub fn times(&self, call: Call) -> Times {
+        let of_call = self.measured.iter().filter(|one| one.call == call);
+        let medians: Vec<[f64; 2]> = of_call.map(|one| one.times.clone().map(median)).collect();
         Times {
-            verified: median(of_banks.iter().map(|t| t[0]).collect()),
-            independent: median(of_banks.iter().map(|t| t[1]).collect()),
-            ratio: median(of_banks.iter().map(|t| t[0] / t[1]).collect()),
+            verified: median(medians.iter().map(|t| t[0]).collect()),
+            independent: median(medians.iter().map(|t| t[1]).collect()),
+            ratio: median(medians.iter().map(|t| t[0] / t[1]).collect()),
         }
     }
 }
 
-/// The median times of one call on one bank: verified, independent.
-fn of_bank(input: &mut Input, call: Call, rounds: usize) -> [f64; 2] {
-    let repeats = SIDES.map(|side| {
-        let once = time(input, call, side, 1).max(1e-9);
-        (LEAST / once).ceil() as usize
-    });
-    let mut times = [Vec::new(), Vec::new()];
+/// Measures all banks in so many rounds.
+pub fn measure(all: &mut [Banks], rounds: usize) {
     for round in 0..rounds {
-        for turn in 0..2 {
-            let side = (round + turn) % 2;
-            times[side].push(time(input, call, SIDES[side], repeats[side]));
+        for banks in all.iter_mut() {
+            banks.measure(round);
         }
     }
-    times.map(median)
+}
+
+/// How many calls make up one measurement.
+fn repeats(input: &mut Input, call: Call, side: Side) -> usize {
+    let once = time(input, call, side, 1).max(1e-9);
+    (LEAST / once).ceil() as usize
 }
 
 /// The time of one call out of so many.

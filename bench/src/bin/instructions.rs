@@ -1,4 +1,4 @@
-//! Makes one call on each of some 8 by 8 banks, to be counted by callgrind: instructions CALL SIDE BANKS.
+//! Makes one call on each of some square banks, to be counted by callgrind: instructions CALL SIDE BANKS SIZE BITS.
 
 use bench::{seeds, Call, Input, Side};
 
@@ -15,9 +15,10 @@ fn main() {
     let words: Vec<String> = std::env::args().skip(1).collect();
     let call = Call::named(&words[0]).expect("a call");
     let side = Side::named(&words[1]).expect("a side");
-    let banks = words[2].parse().expect("a number of banks");
+    let number = |index: usize| words[index].parse::<usize>().expect("a number");
+    let (banks, size, bits) = (number(2), number(3), number(4) as u32);
     let mut inputs: Vec<Input> = seeds(banks)
-        .map(|seed| Input::of_seed(seed, 8, 8, 16))
+        .map(|seed| Input::of_seed(seed, size, size, bits))
         .collect();
     measured(&mut inputs, call, side);
 }
