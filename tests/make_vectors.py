@@ -183,7 +183,78 @@ def test_check():
     return stdin, "\n".join(lines) + "\n"
 
 
-PROGRAMS = {"test_compile": test_compile, "test_check": test_check}
+def vectors(rng, n):
+    """Vectors of n samples: the extremes, both alternations of them, steep ramps up and down, random ones."""
+    low, high = -32768, 32767
+    up = [low + 65535 * j // max(n - 1, 1) for j in range(n)]
+    return [[low] * n, [high] * n, [low, high] * (n // 2) + [low] * (n % 2), [high, low] * (n // 2) + [high] * (n % 2),
+            up, up[::-1], [rng.randrange(low, high + 1) for _ in range(n)]]
+
+
+def first_damaged():
+    """Of the damaged netlists the first with each refusal and place, and the first that is accepted."""
+    seen = set()
+    for _, net in damaged():
+        try:
+            oracle.Netlist(0, net)
+            answer = (0, 0)
+        except oracle.Refused as e:
+            answer = (e.number, e.place)
+        if answer not in seen:
+            seen.add(answer)
+            yield net
+
+
+def run_cases():
+    """Netlists, each with its runs: (samples, number of outputs lent) pairs."""
+    rng = random.Random(15112026)
+    for rows in matrices():
+        n, m = len(rows[0]), len(rows)
+        runs = []
+        for samples in vectors(rng, n):
+            if (samples, m) not in runs:
+                runs.append((samples, m))
+        yield oracle.compile(0, record(rows)).netlist, runs
+    for rows in ([[3, -3]], [[5], [0], [-1]], [[1] * 8 for _ in range(8)]):
+        n, m = len(rows[0]), len(rows)
+        counts = [(n - 1, m), (n + 1, m), (0, m), (255, m), (n + 1, m + 1), (0, 0),     # 15, also where both are wrong
+                  (n, m - 1), (n, m + 1), (n, 0), (n, 16)]                              # 16
+        yield oracle.compile(0, record(rows)).netlist, [([-32768] * k, outputs) for k, outputs in counts]
+    for _, net in handmade():
+        n, m = net[5:6] or b"\1", net[4:5] or b"\1"      # as many as the head says, if it is one
+        yield net, [(samples, m[0]) for samples in vectors(rng, n[0])[4:]]
+    for net in first_damaged():
+        yield net, [([32767], 1), ([32767, -32768], 1), ([-1], 3), ([], 0)]
+
+
+HELD = -2 ** 62                 # what an output holds before
+
+
+def test_run():
+    stdin, lines = b"", []
+    for net, runs in run_cases():
+        stdin += two(len(net)) + two(len(runs)) + net
+        for samples, outputs in runs:
+            stdin += bytes([len(samples), outputs]) + b"".join(two(x % 65536) for x in samples)
+            try:
+                answer = [0, 0] + oracle.run(0, net, samples, outputs)
+            except oracle.Refused as e:
+                answer = [e.number, e.place] + [HELD] * outputs
+            lines.append(" ".join(map(str, answer)))
+    return stdin, "\n".join(lines) + "\n"
+
+
+def run_input(net, samples):
+    """What run-bank reads."""
+    return two(len(net)) + net + b"".join(two(x % 65536) for x in samples)
+
+
+def run_bank():
+    net, samples = oracle.compile(0, record([[3, -3]])).netlist, [32767, -32768]
+    return run_input(net, samples), "".join("%d\n" % y for y in oracle.run(0, net, samples))
+
+
+PROGRAMS = {"run_bank": run_bank, "test_compile": test_compile, "test_check": test_check, "test_run": test_run}
 
 
 def main(argv):

@@ -1,9 +1,8 @@
 -- The text of list-bank from what compile answers and leaves in a buffer of 6,136 bytes.
 -- Assumes nothing.
-use Prim.Native.Nat.{ℕ, zero, suc, _+_, _*_, _≤_, _<_}
+use Prim.Native.Nat.{ℕ, zero, suc, _+_, _*_, _≤_}
 use mathlib.Core.Path.{_≡_, refl, sym, ap, ap₂, _∙_, subst}
-use mathlib.Core.List.{List, [], _++_}
-use borrow.Author.Tests.{lt-ltb, le-ltb}
+use mathlib.Core.List.{List, _++_}
 use native.Mathlib.Omega.{arith}
 use lib.ListN.{length, getD, drop, length-append}
 use Rattle.layout.specs.Matrix.{matrixRefusal, rows, columns}
@@ -16,7 +15,7 @@ use Rattle.listing.specs.declared.Counts.{Counts}
 use Rattle.listing.specs.Listing.{listing, refusedLine}
 use Rattle.listing.specs.Records.{listingOf}
 use Rattle.listing.proofs.Records.{listing-of-netlist}
-use Rattle.bank_text.specs.BankText.{countsOf, bankText, bankTextIn}
+use Rattle.bank_text.specs.BankText.{countsOf, bankText}
 
 -- the counts that an answer and the matrix's m and n give
 abbrev pub countsFrom : List ℕ → CompileAnswer → Counts
@@ -93,10 +92,3 @@ module _ (bytes : List ℕ) (all : AreBytes bytes) (old after : List ℕ) (answe
         ap₂ (λ (a : CompileAnswer) (b : List ℕ). listingOf (countsFrom bytes a) b) (takes taken) written
         ∙ listing-of-netlist (compiledNetlist bytes) (countsOf bytes) behind (sym (compiled-is bytes all taken .count)) (sym (compiled-is bytes all taken .one-per-row))
         ∙ accepted-text bytes taken
-
--- the lent text is too short, or long enough
-pub text-short : (room : ℕ) (bytes : List ℕ) → room < 24598 → [] ≡ bankTextIn room bytes
-text-short room bytes h = sym (rw (lt-ltb room 24598 h, bankTextIn))
-
-pub text-fits : (room : ℕ) (bytes : List ℕ) → 24598 ≤ room → bankText bytes ≡ bankTextIn room bytes
-text-fits room bytes h = sym (rw (le-ltb room 24598 h, bankTextIn))

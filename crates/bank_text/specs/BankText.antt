@@ -1,13 +1,12 @@
 -- Document 01, "Marked banks": what the program list-bank prints for a matrix record.
 -- Assumes nothing.
 use Prim.Native.Nat.{ℕ, zero, suc}
-use mathlib.Core.Bool.{true, false}
-use mathlib.Core.List.{List, []}
-use lib.Dec.{ltb}
+use mathlib.Core.List.{List}
 use Rattle.layout.specs.Matrix.{matrixRefusal, rows, columns}
 use Rattle.compilation.specs.Compile.{compileAccepted, compiledNetlist}
 use Rattle.listing.specs.declared.Counts.{Counts}
 use Rattle.listing.specs.Listing.{listing, refusedLine}
+use Rattle.listing.specs.Wrote.{textIn}
 
 -- the first line's numbers: the matrix's, and those that compile reports
 abbrev pub countsOf : List ℕ → Counts
@@ -32,4 +31,4 @@ bankText bytes =
 
 -- nothing where the lent text is shorter than the longest text
 abbrev pub bankTextIn : ℕ → List ℕ → List ℕ
-bankTextIn length bytes = elim (ltb length 24598) [ true ↦ [] | false ↦ bankText bytes ]
+bankTextIn lent bytes = textIn 24598 lent (bankText bytes)

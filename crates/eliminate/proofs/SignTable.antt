@@ -3,18 +3,19 @@
 use Prim.Native.Nat.{ℕ, zero, suc, _+_, _*_, _≤_, _<_}
 use mathlib.Core.Path.{_≡_, refl, sym, ap, ap₂, _∙_, fun-ext}
 use mathlib.Core.Logic.{inl, inr}
-use mathlib.Core.Bool.{Bool, true, false, _&&_, true≢false}
+use mathlib.Core.Bool.{_&&_}
 use mathlib.Core.List.{List, [], _∷_, List·Memᴰ, List·Memᴰ·head, List·Memᴰ·tail}
 use native.Mathlib.Omega.{arith}
 use native.Mathlib.Numerals.{add-one}
-use borrow.Author.Tests.{ltb-true, ltb-false, eqb-true, lt-ltb, eq-eqb}
-use lib.Dec.{ltb, eqb}
+use borrow.Author.Tests.{ltb-true, ltb-false, lt-ltb}
+use lib.Dec.{ltb}
 use lib.ListN.{length, getD, set, drop, replicate, length-set, length-replicate, getD-replicate, List·getD-eq-default}
 use lib.Seq.{getD-set-same, getD-set-other}
 use Rattle.term.specs.declared.Term.{Term}
 use Rattle.elimination.specs.Rows.{Row, Precedes, Ascending}
 use Rattle.elimination.specs.Lookup.{signAt, signNumber}
 use Rattle.elimination.proofs.Tests.{by-bool, and-left, and-right, and-both, clash}
+use Rattle.lookup.proofs.Looking.{stands, stands-yes, stands-no, sign-here, sign-later}
 use Rattle.eliminate.specs.Signs.{blankSigns, Within, Placed, place, tableSigns, enteredTerms, enteredRows, signTable}
 use Rattle.eliminate.proofs.Members.{member-at, left-next, left-none}
 use Rattle.eliminate.proofs.Places.{place-below, place-same}
@@ -24,26 +25,6 @@ use Rattle.eliminate.proofs.Places.{place-below, place-same}
 -- a term has a symbol and an exponent
 abbrev Stands : Term → ℕ → ℕ → Type 0
 Stands t s e = (t .symbol ≡ s) × (t .exponent ≡ e)
-
-stands-test : Term → ℕ → ℕ → Bool
-stands-test t s e = eqb (t .symbol) s && eqb (t .exponent) e
-
-sign-first : (t : Term) (r : Row) (s e : ℕ) → stands-test t s e ≡ true → signAt (t ∷ r) s e ≡ signNumber (t .negative)
-unfolding signAt stands-test
-sign-first t r s e h = rw (h, signAt)
-
-sign-later : (t : Term) (r : Row) (s e : ℕ) → stands-test t s e ≡ false → signAt (t ∷ r) s e ≡ signAt r s e
-unfolding signAt stands-test
-sign-later t r s e h = rw (h, signAt)
-
-stands : (t : Term) (s e : ℕ) → stands-test t s e ≡ true → Stands t s e
-unfolding stands-test
-stands t s e h =
-    (eqb-true (t .symbol) s (and-left (eqb (t .symbol) s) (eqb (t .exponent) e) h), eqb-true (t .exponent) e (and-right (eqb (t .symbol) s) (eqb (t .exponent) e) h))
-
-stands-not : (t : Term) (s e : ℕ) → stands-test t s e ≡ false → Stands t s e → ⊥
-unfolding stands-test
-stands-not t s e h k = let z : _≡_ {A = Bool} true false = sym (and-both (eqb (t .symbol) s) (eqb (t .exponent) e) (eq-eqb _ _ (k .0)) (eq-eqb _ _ (k .1))) ∙ h in true≢false z
 
 -- two terms of a row in order do not stand in one place
 alone : (t u : Term) (s e : ℕ) → Precedes t u → Stands t s e → Stands u s e → ⊥
@@ -58,9 +39,9 @@ module _ (symbols positions : ℕ) where
   no-sign : (r : Row) (s e : ℕ) → Within symbols positions r → (s < symbols → e < positions → ⊥) → signAt r s e ≡ 0
   no-sign [] s e w h = unfold signAt in refl
   no-sign (t ∷ r) s e w h =
-      by-bool (stands-test t s e)
-      (λ y. let (p, q) = stands t s e y in let (a, b) = w t (List·Memᴰ·head refl) in absurd (h (rw p at a) (rw q at b)))
-      (λ n. sign-later t r s e n ∙ no-sign r s e (within-tail t r w) h)
+      by-bool (stands s e t)
+      (λ y. let (p, q) = stands-yes s e t y in let (a, b) = w t (List·Memᴰ·head refl) in absurd (h (rw p at a) (rw q at b)))
+      (λ n. sign-later s e t r n ∙ no-sign r s e (within-tail t r w) h)
 
   -- ---- entering the terms of a row
 
@@ -106,17 +87,17 @@ module _ (symbols positions : ℕ) where
       let at = place symbols positions i (t .symbol) (t .exponent) in
       let own = place symbols positions i s e in
       let n = signNumber (t .negative) in
-      by-bool (stands-test t s e)
+      by-bool (stands s e t)
       (λ y.
-      let k = stands t s e y in
+      let k = stands-yes s e t y in
       let q : at ≡ own = ap₂ (place symbols positions i) (k .0) (k .1) in
       untouched i i s e hs he (set table at n) r (within-tail t r w) (λ u m _ v. alone t u s e (a .0 u m) k v)
       ∙ rw q (getD-set-same table own n 0 l)
-      ∙ sym (sign-first t r s e y))
+      ∙ sym (sign-here s e t r y))
       (λ y.
-      let o = getD-set-other table at own n 0 (λ q. let same = place-same symbols positions i s e i (t .symbol) (t .exponent) hs he (here .0) (here .1) q in stands-not t s e y (sym (same .1), sym (same .2))) in
+      let o = getD-set-other table at own n 0 (λ q. let same = place-same symbols positions i s e i (t .symbol) (t .exponent) hs he (here .0) (here .1) q in stands-no s e t y (sym (same .1), sym (same .2))) in
       entered-own i s e hs he (set table at n) r (a .1) (within-tail t r w) (rw (length-set table at n) l) (o ∙ z)
-      ∙ sym (sign-later t r s e y))
+      ∙ sym (sign-later s e t r y))
 
   -- ---- entering rows
 

@@ -12,7 +12,7 @@ use lib.Seq.{append-snoc}
 use Rattle.term.specs.declared.Term.{Term}
 use Rattle.elimination.specs.declared.Divisor.{Divisor}
 use Rattle.elimination.specs.Rows.{Row}
-use Rattle.elimination.specs.Lookup.{Signs, takenFlags, partAs, partOfTaken, keptTerms, lookupTerm, lookupTermsFrom}
+use Rattle.elimination.specs.Lookup.{Signs, signAt, takenFlags, partAs, partOfTaken, keptTerms, lookupTerm, lookupTermsFrom}
 use Rattle.elimination.specs.Elimination.{Scored, before, pick, rowAfter, rowsAfter}
 use Rattle.eliminate.specs.Step.{StepAnswer, stepAnswer, rowAfterBy}
 use Rattle.eliminate.proofs.Members.{left-next, left-none}
@@ -83,7 +83,7 @@ room-for done t rest whole most e h =
 
 -- the terms kept, and behind them the terms made
 pub row-after-parts : (positions symbol : ℕ) (d : Divisor) (signs : Signs) (r : Row) (flags : List Bool) (kept : Row)
-    → flags ≡ takenFlags signs d positions → kept ≡ keptTerms d flags r → kept ++ lookupTermsFrom symbol signs d 0 flags ≡ rowAfterBy positions symbol d signs r
+    → flags ≡ takenFlags signs d positions → kept ≡ keptTerms d flags r → kept ++ lookupTermsFrom symbol (signAt r) d 0 flags ≡ rowAfterBy positions symbol d signs r
 unfolding rowAfterBy
 row-after-parts positions symbol d signs r flags kept f k = rw (k, f)
 

@@ -7,7 +7,7 @@ use lib.Dec.{ltb}
 use Rattle.elimination.specs.declared.Divisor.{Divisor}
 use Rattle.elimination.specs.Rows.{Row}
 use Rattle.elimination.specs.Elimination.{Scored, before, pick, rowsAfter}
-use Rattle.elimination.specs.Lookup.{Signs, takenFlags, keptTerms, lookupTermsFrom}
+use Rattle.elimination.specs.Lookup.{Signs, signAt, takenFlags, keptTerms, lookupTermsFrom}
 use Rattle.eliminate.specs.declared.step.Stepped.{Stepped}
 use Rattle.eliminate.specs.State.{rowsTerms}
 
@@ -30,10 +30,10 @@ stepAnswer symbol rows =
       | false ↦ record { rows = rowsAfter symbol (best .divisor) rows; divisor = best .divisor; replaced = best .score }
     ]
 
--- ---- the row after a step by any table of its signs
+-- ---- the row after a step: what is taken by any table of its signs, and each new term by the row itself
 
 unfoldable pub rowAfterBy : ℕ → ℕ → Divisor → Signs → Row → Row
-unfolding takenFlags keptTerms lookupTermsFrom
+unfolding signAt takenFlags keptTerms lookupTermsFrom
 rowAfterBy positions symbol d signs r =
     let flags : List Bool = takenFlags signs d positions in
-    keptTerms d flags r ++ lookupTermsFrom symbol signs d 0 flags
+    keptTerms d flags r ++ lookupTermsFrom symbol (signAt r) d 0 flags

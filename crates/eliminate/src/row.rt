@@ -1,6 +1,8 @@
-// Document 01, "Digits and terms": a row of terms, by value. Rests on `term` and `digits`.
+// Document 01, "Digits and terms": a row of terms, by value. Rests on `term`, `digits` and `lookup`.
 // The fields are private, so that nothing makes a row but its methods.
 use digits::POSITIONS;
+use lookup::Found;
+use lookup::lookup_among;
 use term::Term;
 ghost use mathlib.Core.Path.{_≡_};
 ghost use mathlib.Core.List.{[], _∷_, _++_};
@@ -8,6 +10,7 @@ ghost use Prim.Native.Nat.{_<_, _≤_};
 ghost use lib.ListN.{length, getD};
 ghost use Rattle.digits.specs.Digits.{digits};
 ghost use Rattle.elimination.specs.Rows.{columnTerms};
+ghost use Rattle.lookup.specs.Found.{foundIn};
 ghost use Rattle.eliminate.specs.State.{noTerm, rowTerms};
 
 // At most 8 columns of at most 8 nonzero digits.
@@ -50,6 +53,15 @@ impl Row {
         ensures { λ r. ⌜ r ≡ getD (rowTerms self) i noTerm ⌝ }
     {
         self.terms[i]
+    }
+
+    // The term with a symbol and an exponent.
+    pub fn lookup(self, symbol: u16, exponent: usize) -> Found
+        ensures { λ r. ⌜ r ≡ foundIn (rowTerms self) symbol exponent ⌝ }
+    {
+        let count = self.count();
+        let terms = self.terms;
+        lookup_among(terms, count, symbol, exponent)
     }
 
     // The term of a digit, if it is not 0.

@@ -1,13 +1,13 @@
 // The signs of the terms of all rows, as a table that is looked up: 0 there is none, 1 plus, 2 minus. Rests on `rows`.
 use crate::row::Row;
 use crate::rows::Rows;
+use lookup::sign_of;
 use term::Term;
 ghost use mathlib.Core.Path.{_≡_};
 ghost use Prim.Native.Nat.{_<_, _≤_};
 ghost use lib.ListN.{length};
 ghost use Rattle.eliminate.specs.Signs.{Within, Placed, place, blankSigns, tableSigns, enteredTerms, signTable};
 ghost use Rattle.eliminate.specs.State.{rowTerms, rowsTerms};
-ghost use Rattle.elimination.specs.Lookup.{signNumber};
 
 // 8 rows of 260 symbols of 16 exponents.
 pub const SIZE: usize = 33280;
@@ -47,12 +47,6 @@ fn place_of(i: usize, t: Term) -> usize
     ensures { λ r. ⌜ r ≡ place 260 16 i (t .symbol) (t .exponent) ⌝ }
 {
     place(i, t.symbol(), t.exponent() as usize)
-}
-
-fn sign_of(t: Term) -> u8
-    ensures { λ r. ⌜ r ≡ signNumber (t .negative) ⌝ }
-{
-    if t.negative() { 2 } else { 1 }
 }
 
 // The terms of a row are entered one by one.

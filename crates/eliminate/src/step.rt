@@ -12,7 +12,7 @@ ghost use mathlib.Core.Path.{_≡_};
 ghost use mathlib.Core.List.{_++_};
 ghost use Prim.Native.Nat.{_<_, _≤_};
 ghost use lib.ListN.{length};
-ghost use Rattle.elimination.specs.Lookup.{partAs, partOfTaken, keptTerms, lookupTerm, lookupTermsFrom, Proper};
+ghost use Rattle.elimination.specs.Lookup.{partAs, partOfTaken, keptTerms, signAt, lookupTerm, lookupTermsFrom, Proper};
 ghost use Rattle.elimination.specs.Elimination.{rowsAfter};
 ghost use Rattle.eliminate.specs.State.{rowTerms, rowsTerms, Ready};
 ghost use Rattle.eliminate.specs.Signs.{Within, tableSigns, signTable};
@@ -70,32 +70,25 @@ fn kept(d: Divisor, flags: [bool; POSITIONS], row: Row) -> Row
     out
 }
 
-// The sign of an occurrence is that of its first term.
-fn new_term(signs: &[u8; SIZE], i: usize, symbol: u16, d: Divisor, c: usize) -> Term
-    requires { ⌜ (i < 8) × (symbol ≤ 259) × (c < 16) ⌝ }
-    ensures { λ r. ⌜ r ≡ lookupTerm symbol (tableSigns 260 16 (now (signs .entry)) i) d c ⌝ }
+// The sign of an occurrence is that of its first term, which the row has.
+fn new_term(row: Row, symbol: u16, d: Divisor, c: usize) -> Term
+    requires { ⌜ (symbol ≤ 259) × (c < 16) ⌝ }
+    ensures { λ r. ⌜ r ≡ lookupTerm symbol (signAt (rowTerms row)) d c ⌝ }
 {
-    let sign = signs::sign_at(signs, i, d.a, d.ea as usize + c);
-    Term::new(symbol, c as u8, sign == 2)
+    let first = row.lookup(d.a, d.ea as usize + c);
+    Term::new(symbol, c as u8, first.sign == 2)
 }
 
-// Each taken pair becomes one term: the new symbol, the co-divisor, the occurrence's sign. The row's index is i.
-fn with_new_terms(
-    signs: &[u8; SIZE],
-    i: usize,
-    symbol: u16,
-    d: Divisor,
-    flags: [bool; POSITIONS],
-    row: Row,
-) -> Row
-    requires { ⌜ (i < 8) × (symbol ≤ 259) × (length (rowTerms row ++ lookupTermsFrom symbol (tableSigns 260 16 (now signs) i) d 0 flags) ≤ 64) ⌝ }
-    ensures { λ r. ⌜ rowTerms r ≡ rowTerms row ++ lookupTermsFrom symbol (tableSigns 260 16 (now (signs .entry)) i) d 0 flags ⌝ }
+// Each taken pair of a row becomes one term: the new symbol, the co-divisor, the occurrence's sign. The new terms stand behind those that are kept.
+fn with_new_terms(row: Row, symbol: u16, d: Divisor, flags: [bool; POSITIONS], rest: Row) -> Row
+    requires { ⌜ (symbol ≤ 259) × (length (rowTerms rest ++ lookupTermsFrom symbol (signAt (rowTerms row)) d 0 flags) ≤ 64) ⌝ }
+    ensures { λ r. ⌜ rowTerms r ≡ rowTerms rest ++ lookupTermsFrom symbol (signAt (rowTerms row)) d 0 flags ⌝ }
 {
-    let mut out = row;
+    let mut out = rest;
     let mut c = 0;
     while c < POSITIONS {
         if flags[c] {
-            let t = new_term(signs, i, symbol, d, c);
+            let t = new_term(row, symbol, d, c);
             out = out.push(t);
         }
         c += 1;
@@ -111,7 +104,7 @@ fn row_after(signs: &[u8; SIZE], i: usize, symbol: u16, d: Divisor, row: Row) ->
     let taken = score::taken_in_row(signs, i, d);
     let flags = taken.flags;
     let rest = kept(d, flags, row);
-    with_new_terms(signs, i, symbol, d, flags, rest)
+    with_new_terms(row, symbol, d, flags, rest)
 }
 
 // The rows go into a fresh rows state, one by one.

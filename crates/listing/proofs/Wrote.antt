@@ -1,13 +1,14 @@
 -- Writers one after another: each is lent the part of the text from its place on, and a run of them is one writer of all their lines.
 -- Assumes nothing.
-use Prim.Native.Nat.{ℕ, _+_, _-_, _≤_}
+use Prim.Native.Nat.{ℕ, _+_, _-_, _≤_, _<_}
 use mathlib.Core.Path.{_≡_, refl, sym, ap, subst, _∙_}
 use mathlib.Core.List.{List, [], _++_, append-assoc, append-nil}
 use native.Mathlib.Omega.{arith}
+use borrow.Author.Tests.{lt-ltb, le-ltb}
 use lib.ListN.{length, take, drop, length-append, length-drop, drop-of-length-le}
 use lib.Seq.{take-at, drop-at, drop-drop, take-all, take-length}
 use borrow.Rule.Slice.PartMut.{putMid}
-use Rattle.listing.specs.Wrote.{Wrote}
+use Rattle.listing.specs.Wrote.{Wrote, textIn}
 
 -- nothing is written yet
 pub wrote-nothing : (before : List ℕ) → Wrote before before 0 []
@@ -66,3 +67,10 @@ wrote-more {before} {text} {done} {part} {line} {place} {count} w v = record {
         ap (drop (length line)) (behind w)
         ∙ drop-drop (length line) place before
         ∙ ap (λ (k : ℕ). drop k before) end
+
+-- the lent bytes are too few, or enough
+pub text-short : (longest lent : ℕ) (text : List ℕ) → lent < longest → [] ≡ textIn longest lent text
+text-short longest lent text h = sym (rw (lt-ltb lent longest h, textIn))
+
+pub text-fits : (longest lent : ℕ) (text : List ℕ) → longest ≤ lent → text ≡ textIn longest lent text
+text-fits longest lent text h = sym (rw (le-ltb lent longest h, textIn))

@@ -58,7 +58,7 @@ module _ {A : Type 0} (kind : Kind A) (b : List ℕ) (place : ℕ) where
 
 -- ---- records one after another
 
-flat-snoc : {A : Type 0} (bytes : A → List ℕ) (xs : List A) (x : A) → flatMap bytes (xs ++ (x ∷ [])) ≡ flatMap bytes xs ++ bytes x
+pub flat-snoc : {A : Type 0} (bytes : A → List ℕ) (xs : List A) (x : A) → flatMap bytes (xs ++ (x ∷ [])) ≡ flatMap bytes xs ++ bytes x
 unfolding flatMap
 flat-snoc bytes [] x = append-nil (bytes x)
 flat-snoc bytes (y ∷ ys) x = ap (λ l. bytes y ++ l) (flat-snoc bytes ys x) ∙ sym (append-assoc (bytes y) (flatMap bytes ys) (bytes x))

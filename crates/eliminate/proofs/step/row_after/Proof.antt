@@ -20,7 +20,7 @@ with-new-terms-requires c κs =
     let a = s .args in
     let flags = c .before .before .taken-in-row in
     let parts = row-after-parts 16 (a .symbol) (a .d) (tableSigns 260 16 (a .signs .now) (a .i)) (rowTerms (a .row)) (flags .result .flags) (rowTerms (c .kept .result)) (flags .ensures .0) (c .kept .ensures) in
-    (omega arith, omega arith, rw parts (s .pre .4))
+    (omega arith, rw parts (s .pre .4))
 
 returns : tie.Need-returns
 returns c =

@@ -7,20 +7,19 @@ use native.Mathlib.Omega.{arith}
 use borrow.Author.Needs.{needs}
 use lib.ListN.{length, drop}
 use Rattle.term.specs.declared.Term.{Term}
-use Rattle.elimination.specs.Lookup.{lookupTerm, lookupTermsFrom}
+use Rattle.elimination.specs.Lookup.{signAt, lookupTerm, lookupTermsFrom}
 use Rattle.eliminate.specs.State.{rowTerms}
-use Rattle.eliminate.specs.Signs.{tableSigns}
 use Rattle.eliminate.proofs.Stepping.{new-passes, new-makes, new-end, room-for}
 use Rattle.eliminate.proofs.step.with_new_terms.Statement.{statement}
 use Rattle.eliminate.proofs.step.with_new_terms.Tie as tie
 
 abbrev Inv-loop : tie.InvT-loop
-Inv-loop signs i symbol d flags out₀ c₀ out c =
+Inv-loop row symbol d flags out₀ c₀ out c =
     (c ≤ 16)
-    × (rowTerms out ++ lookupTermsFrom symbol (tableSigns 260 16 signs i) d c (drop c flags) ≡ rowTerms out₀ ++ lookupTermsFrom symbol (tableSigns 260 16 signs i) d 0 flags)
+    × (rowTerms out ++ lookupTermsFrom symbol (signAt (rowTerms row)) d c (drop c flags) ≡ rowTerms out₀ ++ lookupTermsFrom symbol (signAt (rowTerms row)) d 0 flags)
 
 abbrev μ-loop : tie.MeasureT-loop
-μ-loop signs i symbol d flags out₀ c₀ out c = 16 - c
+μ-loop row symbol d flags out₀ c₀ out c = 16 - c
 
 loop-holds : tie.Need-loop-holds Inv-loop μ-loop
 loop-holds c = (omega arith, refl)
@@ -35,13 +34,13 @@ push-requires : tie.Need-push-requires Inv-loop μ-loop
 push-requires c κs =
     let h = c .before .before .before in
     let s = h .before in
-    let signs = tableSigns 260 16 (s .args .signs .now) (s .args .i) in
-    let sixteen : length (s .args .t5) ≡ 16 = search needs in
-    let made = new-makes (s .args .symbol) signs (s .args .d) (s .args .t5) (h .loop .c) (rowTerms (h .loop .out)) (omega arith) (c .before .if1 .taken) in
+    let signs = signAt (rowTerms (s .args .row)) in
+    let sixteen : length (s .args .t4) ≡ 16 = search needs in
+    let made = new-makes (s .args .symbol) signs (s .args .d) (s .args .t4) (h .loop .c) (rowTerms (h .loop .out)) (omega arith) (c .before .if1 .taken) in
     room-for (rowTerms (h .loop .out)) (lookupTerm (s .args .symbol) signs (s .args .d) (h .loop .c))
-    (lookupTermsFrom (s .args .symbol) signs (s .args .d) (h .loop .c + 1) (drop (h .loop .c + 1) (s .args .t5)))
-    (rowTerms (s .args .row) ++ lookupTermsFrom (s .args .symbol) signs (s .args .d) 0 (s .args .t5)) 64
-    (sym made ∙ h .loop .inv .1) (s .pre .2)
+    (lookupTermsFrom (s .args .symbol) signs (s .args .d) (h .loop .c + 1) (drop (h .loop .c + 1) (s .args .t4)))
+    (rowTerms (s .args .rest) ++ lookupTermsFrom (s .args .symbol) signs (s .args .d) 0 (s .args .t4)) 64
+    (sym made ∙ h .loop .inv .1) (s .pre .1)
 
 add-c : tie.Need-add-c Inv-loop μ-loop
 add-c c = search needs
@@ -53,24 +52,24 @@ loop-again : tie.Need-loop-again Inv-loop μ-loop
 loop-again c =
     let h = c .before .before in
     let s = h .before in
-    let signs = tableSigns 260 16 (s .args .signs .now) (s .args .i) in
-    let sixteen : length (s .args .t5) ≡ 16 = search needs in
+    let signs = signAt (rowTerms (s .args .row)) in
+    let sixteen : length (s .args .t4) ≡ 16 = search needs in
     ⊎-elim
     (λ w.
     let out : rowTerms (c .if1 .out) ≡ rowTerms (h .loop .out) ++ (lookupTerm (s .args .symbol) signs (s .args .d) (h .loop .c) ∷ []) =
     ap rowTerms (w .3) ∙ w .2 .ensures ∙ ap (λ (x : Term). rowTerms (h .loop .out) ++ (x ∷ [])) (w .1 .ensures) in
-    (omega arith, rw out (sym (new-makes (s .args .symbol) signs (s .args .d) (s .args .t5) (h .loop .c) (rowTerms (h .loop .out)) (omega arith) (w .0 .taken)) ∙ h .loop .inv .1)))
+    (omega arith, rw out (sym (new-makes (s .args .symbol) signs (s .args .d) (s .args .t4) (h .loop .c) (rowTerms (h .loop .out)) (omega arith) (w .0 .taken)) ∙ h .loop .inv .1)))
     (λ w.
     let out : rowTerms (c .if1 .out) ≡ rowTerms (h .loop .out) = ap rowTerms (w .1) in
-    (omega arith, rw out (sym (new-passes (s .args .symbol) signs (s .args .d) (s .args .t5) (h .loop .c) (rowTerms (h .loop .out)) (omega arith) (w .0 .left)) ∙ h .loop .inv .1)))
+    (omega arith, rw out (sym (new-passes (s .args .symbol) signs (s .args .d) (s .args .t4) (h .loop .c) (rowTerms (h .loop .out)) (omega arith) (w .0 .left)) ∙ h .loop .inv .1)))
     (c .if1 .came)
 
 returns : tie.Need-returns Inv-loop μ-loop
 returns c =
     let h = c .before in
     let s = h .before in
-    let sixteen : length (s .args .t5) ≡ 16 = search needs in
-    sym (new-end (s .args .symbol) (tableSigns 260 16 (s .args .signs .now) (s .args .i)) (s .args .d) (s .args .t5) (h .loop .c) (rowTerms (h .loop .out)) (omega arith))
+    let sixteen : length (s .args .t4) ≡ 16 = search needs in
+    sym (new-end (s .args .symbol) (signAt (rowTerms (s .args .row))) (s .args .d) (s .args .t4) (h .loop .c) (rowTerms (h .loop .out)) (omega arith))
     ∙ h .loop .inv .1
 
 pub with-new-terms-spec : {M : Type 1} → statement M

@@ -1,0 +1,55 @@
+-- The text of run-bank from what run answers and leaves in as many outputs as read says that there are rows.
+-- Assumes nothing.
+use Prim.Native.Nat.{ℕ, zero, suc, _≤_}
+use mathlib.Core.Path.{_≡_, refl, sym, ap, _∙_}
+use mathlib.Core.List.{List}
+use native.Mathlib.Omega.{arith}
+use lib.IntN.{ℤ, pos}
+use lib.ListN.{length, replicate}
+use Rattle.layout.specs.Records.{Netlist}
+use Rattle.layout.proofs.LittleEndian.{AreBytes}
+use Rattle.reading.specs.declared.RunAnswer.{RunAnswer}
+use Rattle.reading.specs.Read.{Reading, refused, accepted, readNetlist, answerOf, readAnswer}
+use Rattle.reading.specs.Run.{runAnswer, runOutputs}
+use Rattle.reading.proofs.ReadAccepts.{reads-netlist}
+use Rattle.samples.specs.Samples.{samplesOf}
+use Rattle.listing.specs.Listing.{refusedLine}
+use Rattle.run_text.specs.RunText.{outputLines, rowsRead, runText}
+
+-- read says that there are at most 8 rows
+pub rows-few : (b : List ℕ) → AreBytes b → rowsRead b ≤ 8
+unfolding readAnswer
+rows-few b all = go (readNetlist b) refl
+  where
+    go : (x : Reading Netlist) → readNetlist b ≡ x → answerOf (readNetlist b) .m ≤ 8
+    go (refused r place) e = rw e (omega arith)
+    go (accepted net) e = rw e (reads-netlist b all net .0 e .netlist .head .rows-most)
+
+module _ (netlist samples : List ℕ) where
+  abbrev answered : RunAnswer
+  answered = runAnswer netlist (length (samplesOf samples)) (rowsRead netlist)
+
+  abbrev outputs : List ℤ
+  outputs = runOutputs netlist (samplesOf samples) (replicate (rowsRead netlist) (pos 0))
+
+  refused-text : (r : ℕ) → answered .refusal ≡ suc r → refusedLine (suc r) (answered .place) ≡ runText netlist samples
+  unfolding runText
+  refused-text r e = sym (rw (e, runText))
+
+  accepted-text : answered .refusal ≡ 0 → outputLines outputs ≡ runText netlist samples
+  unfolding runText
+  accepted-text e = sym (rw (e, runText))
+
+  module _ (answer : RunAnswer) (is : answer ≡ answered) where
+    pub text-refused : (answer .refusal ≡ 0 → ⊥) → refusedLine (answer .refusal) (answer .place) ≡ runText netlist samples
+    text-refused h = go (answered .refusal) refl
+      where
+        go : (r : ℕ) → answered .refusal ≡ r → refusedLine (answer .refusal) (answer .place) ≡ runText netlist samples
+        go zero e = absurd (h (ap (λ (a : RunAnswer). a .refusal) is ∙ e))
+        go (suc r) e =
+            ap (λ (a : RunAnswer). refusedLine (a .refusal) (a .place)) is
+            ∙ ap (λ (k : ℕ). refusedLine k (answered .place)) e
+            ∙ refused-text r e
+
+    pub text-accepted : answer .refusal ≡ 0 → outputLines outputs ≡ runText netlist samples
+    text-accepted e = accepted-text (sym (ap (λ (a : RunAnswer). a .refusal) is) ∙ e)
