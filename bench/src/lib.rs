@@ -1,0 +1,108 @@
+//! What is measured: the four calls of both sides, on spread random banks.
+
+use cases::{bank, Random};
+
+/// The bytes that suffice for every netlist.
+const ROOM: usize = 6136;
+
+#[derive(Clone, Copy, Debug, PartialEq, Eq)]
+pub enum Call {
+    Compile,
+    Read,
+    Check,
+    Run,
+}
+
+pub const CALLS: [Call; 4] = [Call::Compile, Call::Read, Call::Check, Call::Run];
+
+impl Call {
+    pub fn name(self) -> &'static str {
+        match self {
+            Call::Compile => "compile",
+            Call::Read => "read",
+            Call::Check => "check",
+            Call::Run => "run",
+        }
+    }
+
+    pub fn named(name: &str) -> Option<Self> {
+        CALLS.into_iter().find(|call| call.name() == name)
+    }
+}
+
+/// Which implementation is called.
+#[derive(Clone, Copy, Debug, PartialEq, Eq)]
+pub enum Side {
+    Verified,
+    Independent,
+}
+
+pub const SIDES: [Side; 2] = [Side::Verified, Side::Independent];
+
+impl Side {
+    pub fn name(self) -> &'static str {
+        match self {
+            Side::Verified => "verified",
+            Side::Independent => "independent",
+        }
+    }
+
+    pub fn named(name: &str) -> Option<Self> {
+        SIDES.into_iter().find(|side| side.name() == name)
+    }
+}
+
+/// One bank with all that the calls are lent. Buffers keep what the call before left in them.
+pub struct Input {
+    matrix: Vec<u8>,
+    buffer: Vec<u8>,
+    netlist: Vec<u8>,
+    samples: Vec<i16>,
+    outputs: Vec<i64>,
+    pub operations: usize,
+}
+
+impl Input {
+    /// A random bank of m rows, n columns and coefficients of so many bits.
+    pub fn of_seed(seed: u64, m: usize, n: usize, bits: u32) -> Self {
+        let mut random = Random::new(seed);
+        let matrix = bank(&mut random, m, n, bits).record();
+        let mut buffer = vec![0; ROOM];
+        let compiled = reference::compile(&matrix, &mut buffer).expect("a right record");
+        Input {
+            matrix,
+            netlist: buffer[..compiled.written].to_vec(),
+            buffer,
+            samples: (0..n).map(|_| random.sample()).collect(),
+            outputs: vec![0; m],
+            operations: usize::from(compiled.operations),
+        }
+    }
+
+    /// Makes one call.
+    pub fn call(&mut self, call: Call, side: Side) {
+        let (matrix, netlist) = (&self.matrix, &self.netlist);
+        let (samples, outputs) = (&self.samples, &mut self.outputs);
+        let accepted = match (side, call) {
+            (Side::Verified, Call::Compile) => {
+                zaatarloft::compile(matrix, &mut self.buffer).is_ok()
+            }
+            (Side::Verified, Call::Read) => zaatarloft::read(netlist).is_ok(),
+            (Side::Verified, Call::Check) => zaatarloft::check(matrix, netlist).is_ok(),
+            (Side::Verified, Call::Run) => zaatarloft::run(netlist, samples, outputs).is_ok(),
+            (Side::Independent, Call::Compile) => {
+                reference::compile(matrix, &mut self.buffer).is_ok()
+            }
+            (Side::Independent, Call::Read) => reference::read(netlist).is_ok(),
+            (Side::Independent, Call::Check) => reference::check(matrix, netlist).is_ok(),
+            (Side::Independent, Call::Run) => reference::run(netlist, samples, outputs).is_ok(),
+        };
+        assert!(accepted);
+    }
+}
+
+/// Seeds far from each other.
+pub fn seeds(count: usize) -> impl Iterator<Item = u64> {
+    let mut random = Random::new(20_261_115);
+    (0..count).map(move |_| random.number())
+}

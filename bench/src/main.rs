@@ -1,0 +1,152 @@
+//! Measures both sides and writes docs/BENCHMARKS.md and docs/benchmarks.svg: bench FOLDER-OF-THE-REPOSITORY.
+
+mod machine;
+mod plot;
+mod programs;
+mod tables;
+mod text;
+mod times;
+
+use std::path::{Path, PathBuf};
+use std::{env, fs};
+
+use bench::{Call, CALLS, SIDES};
+use plot::{page, Panel};
+use programs::Figures;
+use times::{Banks, Times};
+
+/// Between these lines docs/BENCHMARKS.md is written anew.
+const BEGIN: &str = "<!-- measured: begin -->";
+const END: &str = "<!-- measured: end -->";
+
+const TITLE: &str = "Time per call of the verified library and of the independent implementation: medians over random banks, \
+                     both axes logarithmic";
+
+/// Sizes and coefficient sizes that are measured: growing banks, then growing coefficients. The last is the largest.
+const MEASURED: [(usize, u32); 11] = [
+    (1, 16),
+    (2, 16),
+    (3, 16),
+    (4, 16),
+    (5, 16),
+    (6, 16),
+    (7, 16),
+    (8, 4),
+    (8, 8),
+    (8, 12),
+    (8, 16),
+];
+
+const ROUNDS: usize = 15;
+const BANKS: usize = 21;
+
+/// Figures for banks of one size and coefficient size.
+pub struct Growth {
+    size: usize,
+    bits: u32,
+    operations: f64,
+    /// Of compile: verified, independent.
+    instructions: [f64; 2],
+    compile: Times,
+    read: Times,
+}
+
+impl Growth {
+    fn of(size: usize, bits: u32, banks: &Banks, folder: &Path) -> Self {
+        let count = |side| programs::instructions(folder, Call::Compile, side, size, bits);
+        Growth {
+            size,
+            bits,
+            operations: banks.operations(),
+            instructions: SIDES.map(count),
+            compile: banks.times(Call::Compile),
+            read: banks.times(Call::Read),
+        }
+    }
+}
+
+fn main() {
+    let root = PathBuf::from(env::args().nth(1).expect("the folder of the repository"));
+    let program = env::current_exe().expect("this program's path");
+    let folder = program.parent().expect("this program's folder");
+    let machine = machine::description(&root);
+
+    let banks = |(size, bits)| Banks::new(size, size, bits, BANKS, &CALLS);
+    let mut all = MEASURED.map(banks);
+    times::measure(&mut all, ROUNDS);
+    let calls = CALLS.map(|call| all[MEASURED.len() - 1].times(call));
+    let growth = |(&(size, bits), banks)| Growth::of(size, bits, banks, folder);
+    let growths: Vec<Growth> = MEASURED.iter().zip(&all).map(growth).collect();
+    let sizes: Vec<&Growth> = growths.iter().filter(|g| g.bits == 16).collect();
+    let bits: Vec<&Growth> = growths.iter().filter(|g| g.size == 8).collect();
+    let count = |call, side| programs::instructions(folder, call, side, 8, 16);
+    let instructions = Figures::of(count);
+    let memory = programs::memory(folder);
+
+    let mut text = String::new();
+    tables::ratios(&mut text, &calls, &instructions);
+    tables::growth(&mut text, "m by n", &sizes, |g| {
+        format!("{0} by {0}", g.size)
+    });
+    tables::growth(&mut text, "coefficient size", &bits, |g| {
+        format!("{} bits", g.bits)
+    });
+    tables::memory(&mut text, &memory);
+    tables::absolute(&mut text, &calls, &instructions, &machine);
+    replace_measured(&root.join("docs/BENCHMARKS.md"), &text);
+    let plot = page(TITLE, &panels(&sizes, &bits));
+    fs::write(root.join("docs/benchmarks.svg"), plot).expect("docs/benchmarks.svg is written");
+    println!("{text}");
+}
+
+fn panels(sizes: &[&Growth], bits: &[&Growth]) -> Vec<Panel> {
+    let area = |g: &Growth| (g.size * g.size) as f64;
+    let width = |g: &Growth| f64::from(g.bits);
+    let areas = vec![1.0, 4.0, 9.0, 16.0, 25.0, 36.0, 64.0];
+    vec![
+        Panel {
+            title: "compile, 16-bit coefficients",
+            below: "m · n (m = n)",
+            marks: areas.clone(),
+            verified: sizes
+                .iter()
+                .map(|g| (area(g), g.compile.verified))
+                .collect(),
+            independent: sizes
+                .iter()
+                .map(|g| (area(g), g.compile.independent))
+                .collect(),
+        },
+        Panel {
+            title: "compile, 8 by 8",
+            below: "bits of a coefficient",
+            marks: vec![4.0, 8.0, 12.0, 16.0],
+            verified: bits
+                .iter()
+                .map(|g| (width(g), g.compile.verified))
+                .collect(),
+            independent: bits
+                .iter()
+                .map(|g| (width(g), g.compile.independent))
+                .collect(),
+        },
+        Panel {
+            title: "read, 16-bit coefficients",
+            below: "m · n (m = n)",
+            marks: areas,
+            verified: sizes.iter().map(|g| (area(g), g.read.verified)).collect(),
+            independent: sizes
+                .iter()
+                .map(|g| (area(g), g.read.independent))
+                .collect(),
+        },
+    ]
+}
+
+fn replace_measured(path: &Path, measured: &str) {
+    let old = fs::read_to_string(path).expect("docs/BENCHMARKS.md");
+    let begin = old.find(BEGIN).expect("the begin line") + BEGIN.len();
+    let end = old.find(END).expect("the end line");
+    let new = format!("{}\n\n{measured}\n{}", &old[..begin], &old[end..]);
+    fs::write(path, new).expect("docs/BENCHMARKS.md is written");
+}

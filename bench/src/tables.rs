@@ -1,0 +1,109 @@
+//! The tables of docs/BENCHMARKS.md.
+
+use std::fmt::Write;
+
+use bench::CALLS;
+
+use crate::programs::{Figures, Memory};
+use crate::text::{seconds, thousands};
+use crate::times::Times;
+use crate::Growth;
+
+fn row(text: &mut String, cells: &[String]) {
+    let _ = writeln!(text, "| {} |", cells.join(" | "));
+}
+
+fn header(text: &mut String, cells: &[&str]) {
+    row(
+        text,
+        &cells
+            .iter()
+            .map(|cell| cell.to_string())
+            .collect::<Vec<_>>(),
+    );
+    let _ = writeln!(text, "|{}", "---|".repeat(cells.len()));
+}
+
+pub fn ratios(text: &mut String, calls: &[Times], instructions: &Figures<f64>) {
+    text.push_str(
+        "## Ratios, verified to independent\n\nRandom 8 by 8 banks of 16-bit coefficients.\n\n",
+    );
+    header(text, &["Call", "Time", "Instructions"]);
+    for (call, times) in CALLS.into_iter().zip(calls) {
+        let counted = instructions.verified(call) / instructions.independent(call);
+        let cells = [format!("{:.2}", times.ratio), format!("{counted:.2}")];
+        row(text, &[&[call.name().to_string()], &cells[..]].concat());
+    }
+    text.push('\n');
+}
+
+pub fn growth(text: &mut String, what: &str, rows: &[&Growth], label: impl Fn(&Growth) -> String) {
+    let _ = writeln!(text, "## Growth with {what}\n");
+    let calls = [
+        "compile: instructions, ratio",
+        "time, ratio",
+        "verified",
+        "independent",
+        "read: time, ratio",
+        "verified",
+        "independent",
+    ];
+    header(text, &[&[what, "Operations"], &calls[..]].concat());
+    for growth in rows {
+        let counted = growth.instructions;
+        let mut cells = vec![label(growth), growth.operations.to_string()];
+        cells.push(format!("{:.1}", counted[0] / counted[1]));
+        for times in [&growth.compile, &growth.read] {
+            cells.push(format!("{:.1}", times.ratio));
+            cells.push(seconds(times.verified));
+            cells.push(seconds(times.independent));
+        }
+        row(text, &cells);
+    }
+    text.push('\n');
+}
+
+pub fn memory(text: &mut String, memory: &Figures<Memory>) {
+    text.push_str("## Memory\n\nThe most over 20 of the 8 by 8 banks, in bytes.\n\n");
+    let columns = [
+        "Stack, verified",
+        "Stack, independent",
+        "Heap, verified",
+        "Heap, independent",
+    ];
+    header(text, &[&["Call"], &columns[..]].concat());
+    for call in CALLS {
+        let (verified, independent) = (memory.verified(call), memory.independent(call));
+        let numbers = [
+            verified.stack,
+            independent.stack,
+            verified.heap,
+            independent.heap,
+        ];
+        let cells = numbers.map(thousands);
+        row(text, &[&[call.name().to_string()], &cells[..]].concat());
+    }
+    text.push('\n');
+}
+
+pub fn absolute(text: &mut String, calls: &[Times], instructions: &Figures<f64>, machine: &str) {
+    let _ = writeln!(text, "## Absolute figures\n\n{machine}\n");
+    text.push_str("Random 8 by 8 banks of 16-bit coefficients, one call.\n\n");
+    let columns = [
+        "Time, verified",
+        "Time, independent",
+        "Instructions, verified",
+        "Instructions, independent",
+    ];
+    header(text, &[&["Call"], &columns[..]].concat());
+    for (call, times) in CALLS.into_iter().zip(calls) {
+        let cells = [
+            call.name().to_string(),
+            seconds(times.verified),
+            seconds(times.independent),
+            thousands(instructions.verified(call)),
+            thousands(instructions.independent(call)),
+        ];
+        row(text, &cells);
+    }
+}

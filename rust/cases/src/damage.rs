@@ -1,0 +1,113 @@
+//! Damaged bytes.
+
+use crate::random::Random;
+
+/// Damages bytes in one of several ways; `other` is what may be spliced in.
+pub fn damage(random: &mut Random, bytes: &[u8], other: &[u8]) -> Vec<u8> {
+    let mut damaged = bytes.to_vec();
+    let place = random.between(0, bytes.len().max(1) - 1);
+    let end = random.between(place, bytes.len());
+    match random.between(0, 11) {
+        0..=3 => change(random, &mut damaged, 1),
+        4 => {
+            let count = random.between(2, 6);
+            change(random, &mut damaged, count);
+        }
+        5 => damaged.truncate(place),
+        6 => {
+            let count = random.between(1, 16);
+            let more = random.bytes(count);
+            damaged.extend(more);
+        }
+        7 => {
+            damaged.drain(place..end);
+        }
+        8 => damaged.extend_from_slice(&bytes[place..end]),
+        9 => splice(random, &mut damaged, other),
+        10 => exchange_records(random, &mut damaged),
+        _ => {
+            let count = random.between(0, 64);
+            damaged = random.bytes(count);
+        }
+    }
+    damaged
+}
+
+/// Damages a matrix record: in any way, or in one field of its first bytes, or in its number of bytes alone.
+pub fn damage_matrix(random: &mut Random, record: &[u8], other: &[u8]) -> Vec<u8> {
+    let mut damaged = record.to_vec();
+    match random.between(0, 8) {
+        0 | 1 => damaged = damage(random, record, other),
+        2 => change(random, &mut damaged[..2], 1),
+        3 => change(random, &mut damaged[2..4], 1),
+        4 | 5 => change(random, &mut damaged[4..6], 1),
+        6 => damaged.truncate(random.between(0, 7)),
+        7 => damaged.swap(4, 5),
+        _ => {
+            damaged.resize(random.between(6, 140), 0);
+            let length = damaged.len() as u16;
+            damaged[..2].copy_from_slice(&length.to_le_bytes());
+        }
+    }
+    damaged
+}
+
+/// Changes so many bytes: by one bit, by one, or to any byte.
+fn change(random: &mut Random, bytes: &mut [u8], count: usize) {
+    for _ in 0..count {
+        let any = random.byte();
+        let bit = 1 << random.between(0, 7);
+        let way = random.between(0, 3);
+        if bytes.is_empty() {
+            return;
+        }
+        let byte = &mut bytes[place_in(random, bytes.len())];
+        *byte = match way {
+            0 => *byte ^ bit,
+            1 => byte.wrapping_add(1),
+            2 => byte.wrapping_sub(1),
+            _ => any,
+        };
+    }
+}
+
+/// A place among so many bytes, often near one of the ends: heads, totals and outputs are few bytes of a long netlist.
+fn place_in(random: &mut Random, count: usize) -> usize {
+    match random.between(0, 3) {
+        0 => random.between(0, count.min(12) - 1),
+        1 => count - random.between(1, count.min(12)),
+        _ => random.between(0, count - 1),
+    }
+}
+
+/// The first part of one and the last part of the other.
+fn splice(random: &mut Random, bytes: &mut Vec<u8>, other: &[u8]) {
+    let keep = random.between(0, bytes.len());
+    let from = random.between(0, other.len());
+    bytes.truncate(keep);
+    bytes.extend_from_slice(&other[from..]);
+}
+
+/// Exchanges two whole records, by their length fields, as far as these make sense.
+fn exchange_records(random: &mut Random, bytes: &mut Vec<u8>) {
+    let mut records: Vec<Vec<u8>> = Vec::new();
+    let mut rest = &bytes[..];
+    while rest.len() >= 4 {
+        let length = usize::from(rest[0]) + 256 * usize::from(rest[1]);
+        if length < 4 || length > rest.len() {
+            break;
+        }
+        let (record, after) = rest.split_at(length);
+        records.push(record.to_vec());
+        rest = after;
+    }
+    if records.is_empty() {
+        return;
+    }
+    let rest = rest.to_vec();
+    let one = random.between(0, records.len() - 1);
+    let two = random.between(0, records.len() - 1);
+    records.swap(one, two);
+    *bytes = records.concat();
+    bytes.extend(rest);
+}

@@ -1,0 +1,13 @@
+//! Cases from seeds, for the tests and the benchmark. It rests on document 01's layout alone and on no implementation.
+
+mod damage;
+mod matrices;
+mod netlists;
+mod random;
+mod runs;
+
+pub use damage::{damage, damage_matrix};
+pub use matrices::{any_matrix, bank, Matrix};
+pub use netlists::{any_netlist, plain_netlist};
+pub use random::Random;
+pub use runs::{each, Met};

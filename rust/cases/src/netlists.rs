@@ -1,0 +1,175 @@
+//! Netlists that no compiler made: any operations at all, and plain sums of a matrix's rows.
+
+use crate::matrices::Matrix;
+use crate::random::Random;
+
+/// An entry of the board machine: its coefficients, depth and width.
+#[derive(Clone, Copy)]
+struct Entry {
+    form: [i128; 8],
+    depth: u16,
+    width: u8,
+}
+
+/// An entry and the shift to the left.
+type Operand = (usize, u32);
+
+/// A netlist under construction.
+struct Builder {
+    n: usize,
+    records: Vec<u8>,
+    entries: Vec<Entry>,
+}
+
+impl Builder {
+    fn new(n: usize) -> Self {
+        let input = |j: usize| {
+            let mut form = [0; 8];
+            form[j] = 1;
+            Entry {
+                form,
+                depth: 0,
+                width: 16,
+            }
+        };
+        Builder {
+            n,
+            records: Vec::new(),
+            entries: (0..n).map(input).collect(),
+        }
+    }
+
+    fn operations(&self) -> usize {
+        self.entries.len() - self.n
+    }
+
+    fn record(&mut self, kind: u8, payload: &[u8]) {
+        self.records.extend([payload.len() as u8 + 4, 0, kind, 0]);
+        self.records.extend(payload);
+    }
+
+    /// Appends an operation and returns its symbol.
+    fn operation(&mut self, subtract: bool, a: Operand, b: Operand) -> usize {
+        let (entry_a, entry_b) = (self.entries[a.0], self.entries[b.0]);
+        let sign = if subtract { -1 } else { 1 };
+        let mut form = [0; 8];
+        for (j, c) in form.iter_mut().enumerate() {
+            *c = (entry_a.form[j] << a.1) + sign * (entry_b.form[j] << b.1);
+        }
+        let entry = Entry {
+            form,
+            depth: 1 + entry_a.depth.max(entry_b.depth),
+            width: width(&form),
+        };
+        let [a0, a1] = (a.0 as u16).to_le_bytes();
+        let [b0, b1] = (b.0 as u16).to_le_bytes();
+        let (sa, sb) = (a.1 as u8, b.1 as u8);
+        let payload = [u8::from(subtract), a0, a1, sa, b0, b1, sb, entry.width];
+        self.record(3, &payload);
+        self.entries.push(entry);
+        self.entries.len() - 1
+    }
+
+    fn output(&mut self, minus: bool, operand: Operand) {
+        let sign = if minus { -1 } else { 1 };
+        let form = self.entries[operand.0]
+            .form
+            .map(|c| sign * (c << operand.1));
+        let [low, high] = (operand.0 as u16).to_le_bytes();
+        let payload = [u8::from(minus), low, high, operand.1 as u8, width(&form)];
+        self.record(4, &payload);
+    }
+
+    fn zero(&mut self) {
+        self.record(4, &[2, 0, 0, 0, 1]);
+    }
+
+    /// The netlist with head and totals.
+    fn finish(self, m: usize) -> Vec<u8> {
+        let [low, high] = (self.operations() as u16).to_le_bytes();
+        let depth = self.entries.iter().map(|entry| entry.depth).max();
+        let [d0, d1] = depth.unwrap_or(0).to_le_bytes();
+        let mut bytes = vec![8, 0, 2, 0, m as u8, self.n as u8, low, high];
+        bytes.extend(self.records);
+        bytes.extend([8, 0, 5, 0, low, high, d0, d1]);
+        bytes
+    }
+}
+
+/// The smallest width of a form over all samples of 16 bits, or 255 where it is larger than 100.
+fn width(form: &[i128; 8]) -> u8 {
+    let end = |sample: fn(i128) -> i128| form.iter().map(|&c| c * sample(c)).sum::<i128>();
+    let highest = end(|c| if c > 0 { 32_767 } else { -32_768 });
+    let lowest = end(|c| if c > 0 { -32_768 } else { 32_767 });
+    let holds = |w: &u8| lowest >= -(1i128 << (w - 1)) && highest < 1i128 << (w - 1);
+    (1..=100).find(holds).unwrap_or(255)
+}
+
+/// Any operations on any entries, right in every field, but that a width may exceed 40.
+pub fn any_netlist(random: &mut Random, m: usize, n: usize, operations: usize) -> Vec<u8> {
+    let mut builder = Builder::new(n);
+    let most_shift = random.choose(&[0, 1, 4, 15]);
+    let most_width = random.choose(&[30, 38, 39, 40, 41]);
+    for _ in 0..operations {
+        let a = operand(random, &builder, most_shift, most_width);
+        let b = operand(random, &builder, most_shift, most_width);
+        builder.operation(random.once_in(2), a, b);
+    }
+    for _ in 0..m {
+        let entry = operand(random, &builder, most_shift, most_width);
+        if random.once_in(8) {
+            builder.zero();
+        } else {
+            builder.output(random.once_in(2), entry);
+        }
+    }
+    builder.finish(m)
+}
+
+/// An entry, rather a narrow one, with a shift that keeps it within a width where it can.
+fn operand(random: &mut Random, builder: &Builder, most_shift: usize, most_width: u8) -> Operand {
+    let most = builder.entries.len() - 1;
+    let (one, other) = (random.between(0, most), random.between(0, most));
+    let width = |entry: usize| builder.entries[entry].width;
+    let entry = if width(one) <= width(other) {
+        one
+    } else {
+        other
+    };
+    let room = usize::from(most_width.saturating_sub(width(entry)));
+    (entry, random.between(0, most_shift.min(room)) as u32)
+}
+
+/// A netlist that computes the matrix from binary digits, row by row, in an order that the random numbers choose; none where
+/// it would have more than 504 operations.
+pub fn plain_netlist(random: &mut Random, matrix: &Matrix) -> Option<Vec<u8>> {
+    let mut builder = Builder::new(matrix.n());
+    let mut outputs = Vec::new();
+    for row in &matrix.rows {
+        outputs.push(row_sum(random, &mut builder, row));
+    }
+    for output in outputs {
+        match output {
+            None => builder.zero(),
+            Some((minus, entry)) => builder.output(minus, entry),
+        }
+    }
+    (builder.operations() <= 504).then(|| builder.finish(matrix.m()))
+}
+
+/// Sums the binary digits of a row's coefficients two at a time, in any order; minus stands before the sum.
+fn row_sum(random: &mut Random, builder: &mut Builder, row: &[i16]) -> Option<(bool, Operand)> {
+    let mut terms = Vec::new();
+    for (symbol, &coefficient) in row.iter().enumerate() {
+        let size = coefficient.unsigned_abs();
+        let positions = (0..16).filter(|p| size >> p & 1 == 1);
+        terms.extend(positions.map(|p| (coefficient < 0, (symbol, p))));
+    }
+    while terms.len() > 1 {
+        let (minus, a) = terms.swap_remove(random.between(0, terms.len() - 1));
+        let (minus_b, b) = terms.swap_remove(random.between(0, terms.len() - 1));
+        let sum = builder.operation(minus != minus_b, a, b);
+        terms.push((minus, (sum, 0)));
+    }
+    terms.pop()
+}

@@ -1,0 +1,27 @@
+//! The bank compiler of document 01 in plain Rust, written from its text alone.
+//!
+//! It is the other side of every comparison with the verified library: tests hold the two answers against each other, and
+//! the benchmark takes it as its base. The five calls have the shape of the verified library's wrappers, and a buffer that
+//! a call is lent changes only where the call is accepted.
+
+mod board;
+mod check;
+mod compile;
+mod digits;
+mod elimination;
+mod matrix;
+mod read;
+mod record;
+mod refusal;
+mod run;
+mod width;
+
+#[cfg(test)]
+mod literal;
+
+pub use check::check;
+pub use compile::{compile, Compiled};
+pub use read::{read, Netlist};
+pub use record::{step, Record};
+pub use refusal::Refusal;
+pub use run::run;

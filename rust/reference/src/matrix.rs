@@ -1,0 +1,43 @@
+//! Matrix record: kind 1, m, n, then the coefficients row by row.
+
+use crate::record::two_bytes;
+use crate::refusal::{require, Refusal};
+
+/// The most rows and the most columns.
+pub(crate) const MOST: usize = 8;
+
+/// The bytes before the first coefficient.
+const START: usize = 6;
+
+pub(crate) struct Matrix {
+    pub m: usize,
+    pub n: usize,
+    /// One array for each row; columns from n on are 0, and so are rows from m on.
+    pub rows: [[i16; MOST]; MOST],
+}
+
+impl Matrix {
+    /// The matrix of a record. Refusals 1 to 5.
+    pub fn of_record(record: &[u8]) -> Result<Self, Refusal> {
+        require(record.len() >= START, 1, 0)?;
+        let length = usize::from(two_bytes(record, 0));
+        require(length == record.len(), 2, 0)?;
+        require(two_bytes(record, 2) == 1, 3, 0)?;
+        let (m, n) = (usize::from(record[4]), usize::from(record[5]));
+        require(is_size(m) && is_size(n), 4, 0)?;
+        require(length == START + 2 * m * n, 5, 0)?;
+
+        let mut rows = [[0; MOST]; MOST];
+        for (row, bytes) in rows.iter_mut().zip(record[START..].chunks_exact(2 * n)) {
+            for (coefficient, pair) in row.iter_mut().zip(bytes.chunks_exact(2)) {
+                *coefficient = i16::from_le_bytes([pair[0], pair[1]]);
+            }
+        }
+        Ok(Matrix { m, n, rows })
+    }
+}
+
+/// Whether `count` is a number of rows or columns within the limits.
+pub(crate) fn is_size(count: usize) -> bool {
+    (1..=MOST).contains(&count)
+}

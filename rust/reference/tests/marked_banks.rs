@@ -1,0 +1,97 @@
+//! Document 01's marked banks and its example.
+
+use cases::Matrix;
+use reference::{check, compile, read, run, step, Compiled, Netlist, Refusal};
+
+fn compiled(rows: &[&[i16]]) -> (Compiled, Vec<u8>) {
+    let matrix = Matrix {
+        rows: rows.iter().map(|row| row.to_vec()).collect(),
+    };
+    let mut buffer = vec![0xA5; 6136];
+    let compiled = compile(&matrix.record(), &mut buffer).unwrap();
+    buffer.truncate(compiled.written);
+    assert_eq!(check(&matrix.record(), &buffer), Ok(()));
+    (compiled, buffer)
+}
+
+/// The widths that a netlist records, in order.
+fn widths(netlist: &[u8]) -> Vec<u8> {
+    let (mut widths, mut place) = (Vec::new(), 0);
+    while let Ok(record) = step(netlist, place) {
+        if record.kind == 3 || record.kind == 4 {
+            widths.push(*record.payload.last().unwrap());
+        }
+        place = record.next;
+    }
+    widths
+}
+
+#[test]
+fn one_coefficient() {
+    let (twenty_one, _) = compiled(&[&[21]]);
+    assert_eq!((twenty_one.operations, twenty_one.divisors), (2, 0));
+    let (eighty_five, _) = compiled(&[&[85]]);
+    assert_eq!(eighty_five.operations, 2);
+    assert_eq!((eighty_five.divisors, eighty_five.replacements), (1, 2));
+    let (longest, _) = compiled(&[&[1365]]);
+    assert_eq!((longest.operations, longest.plain), (3, 5));
+    assert_eq!((longest.divisors, longest.replacements), (1, 3));
+}
+
+#[test]
+fn four_by_four() {
+    let (bank, _) = compiled(&[
+        &[1, 1, 1, 1],
+        &[2, 1, -1, -2],
+        &[1, -1, -1, 1],
+        &[1, -2, 2, -1],
+    ]);
+    assert_eq!((bank.plain, bank.divisors), (12, 4));
+    assert_eq!((bank.replacements, bank.operations, bank.depth), (8, 8, 2));
+}
+
+#[test]
+fn marked_widths() {
+    assert_eq!(widths(&compiled(&[&[1, 1]]).1), [17, 17]);
+    assert_eq!(widths(&compiled(&[&[-1]]).1), [17]);
+    assert_eq!(widths(&compiled(&[&[0]]).1), [1]);
+    let (_, eight) = compiled(&[&[-32_768; 8]]);
+    assert_eq!(widths(&eight)[6..], [34, 35]);
+}
+
+#[test]
+fn three_minus_three() {
+    let (bank, netlist) = compiled(&[&[3, -3]]);
+    let expected = [
+        &[8, 0, 2, 0, 1, 2, 2, 0][..],
+        &[12, 0, 3, 0, 1, 0, 0, 0, 1, 0, 0, 17],
+        &[12, 0, 3, 0, 1, 2, 0, 0, 2, 0, 2, 19],
+        &[9, 0, 4, 0, 1, 3, 0, 0, 19],
+        &[8, 0, 5, 0, 2, 0, 2, 0],
+    ];
+    assert_eq!(netlist, expected.concat());
+    let counts = Compiled {
+        written: 49,
+        operations: 2,
+        plain: 3,
+        divisors: 1,
+        replacements: 2,
+        depth: 2,
+    };
+    assert_eq!(bank, counts);
+    let read_back = Netlist {
+        m: 1,
+        n: 2,
+        operations: 2,
+        depth: 2,
+    };
+    assert_eq!(read(&netlist), Ok(read_back));
+    let mut outputs = [7];
+    assert_eq!(run(&netlist, &[-32_768, 32_767], &mut outputs), Ok(()));
+    assert_eq!(outputs, [-196_605]);
+    let samples = Refusal {
+        number: 15,
+        place: 0,
+    };
+    assert_eq!(run(&netlist, &[1], &mut []), Err(samples));
+}

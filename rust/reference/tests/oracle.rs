@@ -1,0 +1,167 @@
+//! Comparison with a second program by another author, run by hand:
+//!
+//!     BANK=path/to/bank.py cargo test --release -p reference --test oracle -- --ignored
+//!
+//! The program prints its answers as text; each call is one process, so the counts are small.
+
+use std::io::Write;
+use std::path::PathBuf;
+use std::process::{Command, Output, Stdio};
+use std::{env, fs};
+
+use cases::{any_matrix, any_netlist, damage, damage_matrix, each, plain_netlist, Met, Random};
+use reference::Refusal;
+
+fn bank(words: &[&str], input: &[u8]) -> Output {
+    let program = env::var("BANK").expect("BANK is the path of bank.py");
+    let mut child = Command::new("python3")
+        .arg(program)
+        .arg("0")
+        .args(words)
+        .stdin(Stdio::piped())
+        .stdout(Stdio::piped())
+        .stderr(Stdio::piped())
+        .spawn()
+        .unwrap();
+    child.stdin.take().unwrap().write_all(input).unwrap();
+    child.wait_with_output().unwrap()
+}
+
+fn text(bytes: &[u8]) -> String {
+    String::from_utf8(bytes.to_vec())
+        .unwrap()
+        .trim()
+        .to_string()
+}
+
+fn refused(refusal: Refusal) -> String {
+    format!("refused {} at {}", refusal.number, refusal.place)
+}
+
+/// Compares compile and returns the netlist, if there is one.
+fn compare_compile(met: &mut Met, record: &[u8]) -> Option<Vec<u8>> {
+    let theirs = bank(&["compile"], record);
+    let mut buffer = vec![0; 6136];
+    match reference::compile(record, &mut buffer) {
+        Ok(c) => {
+            met.count(0);
+            buffer.truncate(c.written);
+            assert_eq!(theirs.stdout, buffer);
+            let counts = [c.operations, c.plain, c.divisors, c.replacements, c.depth];
+            let listed: Vec<String> = counts.iter().map(u16::to_string).collect();
+            let expected = format!("{} {}", c.written, listed.join(" "));
+            assert_eq!(text(&theirs.stderr), expected);
+            Some(buffer)
+        }
+        Err(refusal) => {
+            met.count(refusal.number);
+            assert_eq!(text(&theirs.stderr), refused(refusal));
+            None
+        }
+    }
+}
+
+fn compare_read(met: &mut Met, netlist: &[u8]) {
+    let ours = match reference::read(netlist) {
+        Ok(r) => {
+            met.count(0);
+            format!(
+                "outputs {} inputs {} operations {} depth {}",
+                r.m, r.n, r.operations, r.depth
+            )
+        }
+        Err(refusal) => {
+            met.count(refusal.number);
+            refused(refusal)
+        }
+    };
+    assert_eq!(text(&bank(&["read"], netlist).stdout), ours);
+}
+
+fn compare_check(met: &mut Met, record: &[u8], netlist: &[u8]) {
+    let ours = match reference::check(record, netlist) {
+        Ok(()) => {
+            met.count(0);
+            "accepted".to_string()
+        }
+        Err(refusal) => {
+            met.count(refusal.number);
+            refused(refusal)
+        }
+    };
+    let (matrix, netlist) = (file("matrix", record), file("netlist", netlist));
+    let words = ["check", matrix.to_str().unwrap(), netlist.to_str().unwrap()];
+    assert_eq!(text(&bank(&words, &[]).stdout), ours);
+}
+
+fn compare_run(met: &mut Met, netlist: &[u8], samples: &[i16], m: usize) {
+    let mut outputs = vec![5; m];
+    let ours = match reference::run(netlist, samples, &mut outputs) {
+        Ok(()) => {
+            met.count(0);
+            let listed: Vec<String> = outputs.iter().map(i64::to_string).collect();
+            listed.join(" ")
+        }
+        Err(refusal) => {
+            met.count(refusal.number);
+            refused(refusal)
+        }
+    };
+    let netlist = file("run", netlist);
+    let samples: Vec<String> = samples.iter().map(i16::to_string).collect();
+    let mut words = vec!["run", netlist.to_str().unwrap()];
+    words.extend(samples.iter().map(String::as_str));
+    let theirs = text(&bank(&words, &[]).stdout);
+    let words: Vec<&str> = theirs.split_whitespace().collect();
+    assert_eq!(words.join(" "), ours);
+}
+
+fn file(name: &str, bytes: &[u8]) -> PathBuf {
+    let name = format!("reference-oracle-{}-{name}", std::process::id());
+    let path = env::temp_dir().join(name);
+    fs::write(&path, bytes).unwrap();
+    path
+}
+
+fn samples(random: &mut Random, count: usize) -> Vec<i16> {
+    (0..count).map(|_| random.sample()).collect()
+}
+
+#[test]
+#[ignore = "needs BANK, the path of a second program"]
+fn oracle_agrees() {
+    let (mut compiled, mut read) = (Met::default(), Met::default());
+    let (mut checked, mut run) = (Met::default(), Met::default());
+    let count = env::var("COUNT").map_or(500, |count| count.parse().unwrap());
+    each(0, count, |random| {
+        let matrix = any_matrix(random, 8, 8);
+        let record = matrix.record();
+        let netlist = compare_compile(&mut compiled, &record).unwrap();
+        compare_read(&mut read, &netlist);
+        compare_check(&mut checked, &record, &netlist);
+        let vector = samples(random, matrix.n());
+        compare_run(&mut run, &netlist, &vector, matrix.m());
+
+        let other = any_matrix(random, 8, 8);
+        let bad_record = damage_matrix(random, &record, &other.record());
+        compare_compile(&mut compiled, &bad_record);
+        compare_check(&mut checked, &bad_record, &netlist);
+
+        let operations = random.between(0, 60);
+        let any = any_netlist(random, matrix.m(), matrix.n(), operations);
+        let plain = plain_netlist(random, &matrix).unwrap_or_else(|| any.clone());
+        let bad_netlist = damage(random, &netlist, &any);
+        for netlist in [&any, &plain, &bad_netlist] {
+            compare_read(&mut read, netlist);
+            compare_check(&mut checked, &record, netlist);
+            let count = random.between(matrix.n() - 1, matrix.n());
+            let vector = samples(random, count);
+            compare_run(&mut run, netlist, &vector, matrix.m());
+        }
+    });
+    compiled.assert_exactly("compile", &[0, 1, 2, 3, 4, 5], 1);
+    read.assert_exactly("read", &[0, 7, 8, 9, 10, 11, 12], 1);
+    let check_numbers = [0, 1, 2, 3, 4, 5, 7, 8, 9, 10, 11, 12, 13, 14];
+    checked.assert_exactly("check", &check_numbers, 1);
+    run.assert_exactly("run", &[0, 7, 8, 9, 10, 11, 12, 15], 1);
+}

@@ -1,0 +1,148 @@
+//! Each call made on both sides, compared and counted.
+
+use std::fmt::Debug;
+
+use cases::Met;
+
+/// What stands around a lent buffer, to see that nothing is written there.
+const MARGIN: usize = 32;
+
+/// How often each answer was met, call by call.
+#[derive(Default)]
+pub struct Both {
+    compile: Met,
+    read: Met,
+    check: Met,
+    run: Met,
+    step: Met,
+}
+
+/// A refusal's number and place, of either side.
+type Refused = (u8, usize);
+
+fn verified<T>(answer: Result<T, zaatarloft::Refusal>) -> Result<T, Refused> {
+    answer.map_err(|refusal| (refusal.number, refusal.place))
+}
+
+fn independent<T>(answer: Result<T, reference::Refusal>) -> Result<T, Refused> {
+    answer.map_err(|refusal| (refusal.number, refusal.place))
+}
+
+/// The number of an answer: 0 where it was accepted.
+fn number<T>(answer: &Result<T, Refused>) -> u8 {
+    match answer {
+        Ok(_) => 0,
+        Err((number, _)) => *number,
+    }
+}
+
+/// Lends a call a buffer with these old contents, and returns its answer and the contents afterwards.
+fn lend<T, R>(old: &[T], margin: T, call: impl FnOnce(&mut [T]) -> R) -> (R, Vec<T>)
+where
+    T: Copy + PartialEq + Debug,
+{
+    let mut whole = vec![margin; MARGIN];
+    whole.extend_from_slice(old);
+    whole.resize(old.len() + 2 * MARGIN, margin);
+    let (before, rest) = whole.split_at_mut(MARGIN);
+    let (lent, after) = rest.split_at_mut(old.len());
+    let answer = call(lent);
+    assert_eq!(before, [margin; MARGIN]);
+    assert_eq!(after, [margin; MARGIN]);
+    (answer, lent.to_vec())
+}
+
+impl Both {
+    /// Compiles into a buffer with these old bytes, and returns the netlist where it was accepted.
+    pub fn compile(&mut self, matrix: &[u8], old: &[u8]) -> Option<Vec<u8>> {
+        let (answer, buffer) = lend(old, 0x5A, |lent| zaatarloft::compile(matrix, lent));
+        let (expected, contents) = lend(old, 0x5A, |lent| reference::compile(matrix, lent));
+        let expected = independent(expected);
+        let answer = verified(answer).map(|c| reference::Compiled {
+            written: c.written,
+            operations: c.operations,
+            plain: c.plain,
+            divisors: c.divisors,
+            replacements: c.replacements,
+            depth: c.depth,
+        });
+        assert_eq!(answer, expected, "compile of {matrix:?}");
+        assert_eq!(buffer, contents, "buffer after compile of {matrix:?}");
+        self.compile.count(number(&answer));
+
+        let written = answer.map_or(0, |compiled| compiled.written);
+        assert_eq!(buffer[written..], old[written..]);
+        answer.ok().map(|_| buffer[..written].to_vec())
+    }
+
+    pub fn read(&mut self, netlist: &[u8]) -> Option<reference::Netlist> {
+        let expected = independent(reference::read(netlist));
+        let answer = verified(zaatarloft::read(netlist)).map(|read| reference::Netlist {
+            m: read.m,
+            n: read.n,
+            operations: read.operations,
+            depth: read.depth,
+        });
+        assert_eq!(answer, expected, "read of {netlist:?}");
+        self.read.count(number(&answer));
+        answer.ok()
+    }
+
+    pub fn check(&mut self, matrix: &[u8], netlist: &[u8]) -> bool {
+        let expected = independent(reference::check(matrix, netlist));
+        let answer = verified(zaatarloft::check(matrix, netlist));
+        assert_eq!(answer, expected, "check of {matrix:?} and {netlist:?}");
+        self.check.count(number(&answer));
+        answer.is_ok()
+    }
+
+    /// Runs on outputs with these old contents, and returns the outputs where it was accepted.
+    pub fn run(&mut self, netlist: &[u8], samples: &[i16], old: &[i64]) -> Option<Vec<i64>> {
+        let (expected, values) = lend(old, -7, |lent| reference::run(netlist, samples, lent));
+        let (answer, outputs) = lend(old, -7, |lent| zaatarloft::run(netlist, samples, lent));
+        let (answer, expected) = (verified(answer), independent(expected));
+        assert_eq!(answer, expected, "run of {netlist:?} on {samples:?}");
+        assert_eq!(outputs, values, "outputs of {netlist:?} on {samples:?}");
+        self.run.count(number(&answer));
+
+        if answer.is_err() {
+            assert_eq!(outputs, old);
+        }
+        answer.ok().map(|_| outputs)
+    }
+
+    pub fn step(&mut self, bytes: &[u8], place: usize) {
+        let expected = independent(reference::step(bytes, place));
+        let answer = verified(zaatarloft::step(bytes, place)).map(|record| reference::Record {
+            kind: record.kind,
+            payload: record.payload,
+            next: record.next,
+        });
+        assert_eq!(answer, expected, "step at {place} of {bytes:?}");
+        if let (Ok(record), Ok(other)) = (answer, expected) {
+            let (payload, expected) = (record.payload.as_ptr(), other.payload.as_ptr());
+            assert_eq!(payload, expected, "the payload is a part of the lent bytes");
+        }
+        self.step.count(number(&answer));
+    }
+
+    pub fn assert_compile(&self, numbers: &[u8], least: u64) {
+        self.compile.assert_exactly("compile", numbers, least);
+    }
+
+    pub fn assert_read(&self, numbers: &[u8], least: u64) {
+        self.read.assert_exactly("read", numbers, least);
+    }
+
+    pub fn assert_check(&self, numbers: &[u8], least: u64) {
+        self.check.assert_exactly("check", numbers, least);
+    }
+
+    pub fn assert_run(&self, numbers: &[u8], least: u64) {
+        self.run.assert_exactly("run", numbers, least);
+    }
+
+    pub fn assert_step(&self, numbers: &[u8], least: u64) {
+        self.step.assert_exactly("step", numbers, least);
+    }
+}

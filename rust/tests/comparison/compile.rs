@@ -1,0 +1,160 @@
+//! Compile: matrices of all kinds, buffers of all lengths, damaged matrix records; and what becomes of the netlist.
+
+use cases::{any_matrix, bank, damage_matrix, each, Matrix, Random};
+
+use crate::both::Both;
+
+/// The bytes that suffice for every netlist.
+const ROOM: usize = 6136;
+
+/// The length of a matrix's netlist.
+fn netlist_length(matrix: &Matrix) -> usize {
+    let compiled = reference::compile(&matrix.record(), &mut [0; ROOM]);
+    compiled.unwrap().written
+}
+
+/// Compiles, then reads, checks and runs what was written; each output must be row times vector.
+fn compile_and_use(both: &mut Both, random: &mut Random, matrix: &Matrix) {
+    let room = netlist_length(matrix) + random.between(0, 40);
+    let old = random.bytes(room);
+    let netlist = both.compile(&matrix.record(), &old).unwrap();
+    let read = both.read(&netlist).unwrap();
+    assert_eq!(usize::from(read.m), matrix.m());
+    assert_eq!(usize::from(read.n), matrix.n());
+    assert!(both.check(&matrix.record(), &netlist));
+
+    let row = &matrix.rows[random.between(0, matrix.m() - 1)];
+    let steep = |sign: bool| move |&c: &i16| if (c < 0) == sign { i16::MIN } else { i16::MAX };
+    let any: Vec<i16> = row.iter().map(|_| random.sample()).collect();
+    let highest = row.iter().map(steep(true)).collect();
+    let lowest = row.iter().map(steep(false)).collect();
+    for samples in [any, highest, lowest] {
+        let old: Vec<i64> = row_numbers(random, matrix.m());
+        let outputs = both.run(&netlist, &samples, &old).unwrap();
+        assert_eq!(outputs, matrix.times(&samples));
+    }
+}
+
+fn row_numbers(random: &mut Random, count: usize) -> Vec<i64> {
+    (0..count).map(|_| random.number() as i64).collect()
+}
+
+#[test]
+fn every_coefficient_alone() {
+    let mut both = Both::default();
+    let mut random = Random::new(0);
+    for coefficient in i16::MIN..=i16::MAX {
+        let matrix = Matrix {
+            rows: vec![vec![coefficient]],
+        };
+        compile_and_use(&mut both, &mut random, &matrix);
+    }
+    both.assert_compile(&[0], 65_536);
+}
+
+#[test]
+fn matrices_of_all_kinds() {
+    let mut both = Both::default();
+    each(100_000, 8_000, |random| {
+        let matrix = any_matrix(random, 8, 8);
+        compile_and_use(&mut both, random, &matrix);
+    });
+    both.assert_compile(&[0], 8_000);
+}
+
+#[test]
+fn small_matrices() {
+    let mut both = Both::default();
+    each(200_000, 30_000, |random| {
+        let matrix = any_matrix(random, 3, 3);
+        compile_and_use(&mut both, random, &matrix);
+    });
+    both.assert_compile(&[0], 30_000);
+}
+
+#[test]
+fn largest_banks() {
+    let mut both = Both::default();
+    each(300_000, 300, |random| {
+        let bits = random.choose(&[8, 12, 16]);
+        let matrix = bank(random, 8, 8, bits);
+        compile_and_use(&mut both, random, &matrix);
+    });
+    both.assert_compile(&[0], 300);
+}
+
+/// The rows with the most terms, and rows that nothing or everything shares.
+#[test]
+fn extreme_banks() {
+    let mut both = Both::default();
+    let mut random = Random::new(1);
+    for coefficient in [
+        0,
+        1,
+        -1,
+        21_845,
+        -21_846,
+        10_923,
+        i16::MAX,
+        i16::MIN,
+        85,
+        1_365,
+    ] {
+        for (m, n) in [(1, 8), (8, 1), (8, 8)] {
+            let matrix = Matrix {
+                rows: vec![vec![coefficient; n]; m],
+            };
+            compile_and_use(&mut both, &mut random, &matrix);
+        }
+    }
+    both.assert_compile(&[0], 30);
+}
+
+#[test]
+fn buffers_of_every_length() {
+    let mut both = Both::default();
+    each(400_000, 150, |random| {
+        let matrix = any_matrix(random, 2, 3);
+        for room in 0..netlist_length(&matrix) + 10 {
+            let old = random.bytes(room);
+            let netlist = both.compile(&matrix.record(), &old);
+            assert_eq!(netlist.is_some(), room >= netlist_length(&matrix));
+        }
+    });
+    both.assert_compile(&[0, 6], 1_500);
+}
+
+#[test]
+fn buffers_around_the_length() {
+    let mut both = Both::default();
+    each(500_000, 1_000, |random| {
+        let matrix = any_matrix(random, 6, 6);
+        let length = netlist_length(&matrix);
+        let shorter = random.between(0, length - 1);
+        for room in [0, shorter, length - 1, length, ROOM] {
+            let old = random.bytes(room);
+            both.compile(&matrix.record(), &old);
+        }
+    });
+    both.assert_compile(&[0, 6], 2_000);
+}
+
+#[test]
+fn damaged_matrix_records() {
+    let mut both = Both::default();
+    each(600_000, 40_000, |random| {
+        let matrix = any_matrix(random, 4, 4);
+        let other = any_matrix(random, 4, 4);
+        let mut netlist = vec![0; ROOM];
+        let compiled = reference::compile(&matrix.record(), &mut netlist);
+        netlist.truncate(compiled.unwrap().written);
+
+        let damaged = damage_matrix(random, &matrix.record(), &other.record());
+        let room = random.choose(&[0, netlist.len() - 1, netlist.len(), netlist.len() + 200]);
+        let old = random.bytes(room);
+        both.compile(&damaged, &old);
+        both.check(&damaged, &netlist);
+    });
+    both.assert_compile(&[0, 1, 2, 3, 4, 5, 6], 500);
+    both.assert_check(&[0, 1, 2, 3, 4, 5, 13, 14], 50);
+}

@@ -1,0 +1,10 @@
+//! The verified library beside the independent implementation `reference`, in bulk: for every input both must give the same
+//! answer and leave the same bytes in every lent buffer.
+//!
+//! Inputs follow from seeds. A failure names its seed, and SEED=NUMBER runs that one alone, as does SEED=FIRST..END a range.
+
+mod both;
+mod compile;
+mod netlists;
+mod raw;
+mod records;

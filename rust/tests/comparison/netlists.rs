@@ -1,0 +1,183 @@
+//! Read, check and run on netlists: those of compile, others that are right, and damaged ones.
+
+use cases::{any_matrix, any_netlist, damage, each, plain_netlist, Matrix, Random};
+
+use crate::both::Both;
+
+/// What each call may answer to a netlist of any bytes and a right matrix record.
+const READ: [u8; 7] = [0, 7, 8, 9, 10, 11, 12];
+const CHECK: [u8; 9] = [0, 7, 8, 9, 10, 11, 12, 13, 14];
+const RUN: [u8; 9] = [0, 7, 8, 9, 10, 11, 12, 15, 16];
+
+fn compiled(matrix: &Matrix) -> Vec<u8> {
+    let mut netlist = vec![0; 6136];
+    let compiled = reference::compile(&matrix.record(), &mut netlist);
+    netlist.truncate(compiled.unwrap().written);
+    netlist
+}
+
+/// A netlist of any of the three kinds.
+fn netlist(random: &mut Random, matrix: &Matrix) -> Vec<u8> {
+    let most = random.choose(&[5, 30, 120]);
+    let operations = random.between(0, most);
+    match random.between(0, 2) {
+        0 => compiled(matrix),
+        1 => any_netlist(random, matrix.m(), matrix.n(), operations),
+        _ => plain_netlist(random, matrix).unwrap_or_else(|| compiled(matrix)),
+    }
+}
+
+/// All three calls; run with right and wrong counts of samples and outputs.
+fn all_calls(both: &mut Both, random: &mut Random, matrix: &Matrix, netlist: &[u8]) {
+    let (m, n) = (matrix.m(), matrix.n());
+    both.read(netlist);
+    both.check(&matrix.record(), netlist);
+    let samples = random.choose(&[n, n, n, n - 1, n + 1, 0, 8]);
+    let outputs = random.choose(&[m, m, m, m - 1, m + 1, 0, 8]);
+    let samples: Vec<i16> = (0..samples).map(|_| random.sample()).collect();
+    let old: Vec<i64> = (0..outputs).map(|_| random.number() as i64).collect();
+    both.run(netlist, &samples, &old);
+}
+
+#[test]
+fn damaged_netlists() {
+    let mut both = Both::default();
+    each(1_000_000, 100_000, |random| {
+        let (matrix, other) = (any_matrix(random, 4, 4), any_matrix(random, 4, 4));
+        let right = netlist(random, &matrix);
+        let spliced = netlist(random, &other);
+        let damaged = damage(random, &right, &spliced);
+        all_calls(&mut both, random, &matrix, &damaged);
+        both.check(&other.record(), &damaged);
+        let twice = damage(random, &damaged, &right);
+        all_calls(&mut both, random, &matrix, &twice);
+    });
+    both.assert_read(&READ, 1_000);
+    both.assert_check(&CHECK, 500);
+    both.assert_run(&RUN, 500);
+}
+
+#[test]
+fn right_netlists() {
+    let mut both = Both::default();
+    each(2_000_000, 15_000, |random| {
+        let matrix = any_matrix(random, 8, 8);
+        let right = netlist(random, &matrix);
+        all_calls(&mut both, random, &matrix, &right);
+        let mut changed = matrix.clone();
+        let row = &mut changed.rows[random.between(0, matrix.m() - 1)];
+        let coefficient = &mut row[random.between(0, matrix.n() - 1)];
+        *coefficient = coefficient.wrapping_add(random.choose(&[1, -1, 256]));
+        all_calls(&mut both, random, &changed, &right);
+        let other = any_matrix(random, 8, 8);
+        all_calls(&mut both, random, &other, &right);
+    });
+    both.assert_read(&[0, 10], 100);
+    both.assert_check(&[0, 10, 13, 14], 100);
+    both.assert_run(&[0, 10, 15, 16], 100);
+}
+
+/// Netlists that compute the matrix from binary digits: check accepts what compile would not write.
+#[test]
+fn plain_netlists() {
+    let mut both = Both::default();
+    each(3_000_000, 10_000, |random| {
+        let matrix = any_matrix(random, 8, 8);
+        if let Some(plain) = plain_netlist(random, &matrix) {
+            assert!(both.check(&matrix.record(), &plain));
+            let samples: Vec<i16> = matrix.rows[0].iter().map(|_| random.sample()).collect();
+            let outputs = both.run(&plain, &samples, &vec![1; matrix.m()]);
+            assert_eq!(outputs, Some(matrix.times(&samples)));
+        }
+    });
+    both.assert_check(&[0], 9_000);
+}
+
+/// Around 504 operations, the most that a head may say.
+#[test]
+fn longest_netlists() {
+    let mut both = Both::default();
+    each(4_000_000, 1_000, |random| {
+        let matrix = any_matrix(random, 8, 8);
+        let operations = random.choose(&[500, 503, 504, 504, 505, 506]);
+        let long = any_netlist(random, matrix.m(), matrix.n(), operations);
+        all_calls(&mut both, random, &matrix, &long);
+        let damaged = damage(random, &long, &long);
+        all_calls(&mut both, random, &matrix, &damaged);
+    });
+    both.assert_read(&READ, 10);
+}
+
+/// Every byte of some netlists set to every value.
+#[test]
+fn every_byte_changed() {
+    let mut both = Both::default();
+    each(5_000_000, 12, |random| {
+        let matrix = any_matrix(random, 2, 3);
+        let right = netlist(random, &matrix);
+        for place in 0..right.len().min(200) {
+            for byte in 0..=255 {
+                let mut changed = right.clone();
+                changed[place] = byte;
+                all_calls(&mut both, random, &matrix, &changed);
+            }
+        }
+    });
+    both.assert_read(&[0, 7, 8, 9, 10, 11], 500);
+}
+
+#[test]
+fn every_length() {
+    let mut both = Both::default();
+    each(6_000_000, 400, |random| {
+        let matrix = any_matrix(random, 3, 3);
+        let mut bytes = netlist(random, &matrix);
+        bytes.extend(random.bytes(8));
+        for length in 0..bytes.len() {
+            all_calls(&mut both, random, &matrix, &bytes[..length]);
+        }
+    });
+    both.assert_read(&[0, 7, 10, 12], 100);
+}
+
+#[test]
+fn random_bytes() {
+    let mut both = Both::default();
+    each(7_000_000, 50_000, |random| {
+        let matrix = any_matrix(random, 2, 2);
+        let count = random.between(0, 60);
+        let mut bytes = random.bytes(count);
+        if random.once_in(2) && count >= 2 {
+            bytes[1] = 0; // else nearly every length exceeds what remains
+        }
+        all_calls(&mut both, random, &matrix, &bytes);
+    });
+    both.assert_read(&[7, 8], 1_000);
+}
+
+/// Records of the right kinds and lengths, now and then of others, with random bytes in them.
+#[test]
+fn random_records() {
+    let mut both = Both::default();
+    each(10_000_000, 100_000, |random| {
+        let matrix = any_matrix(random, 2, 2);
+        let operations = random.between(0, 3) as u8;
+        let (m, n) = (matrix.m() as u8, matrix.n() as u8);
+        let mut bytes = vec![8, 0, 2, 0, m, n, operations, 0];
+        for (kind, length) in [(3, 12), (4, 9), (5, 8)] {
+            let count = [operations, m, 1][kind - 3];
+            for _ in 0..count {
+                let length = length + usize::from(random.once_in(20));
+                bytes.extend([
+                    length as u8,
+                    0,
+                    kind as u8 + u8::from(random.once_in(20)),
+                    0,
+                ]);
+                bytes.extend((4..length).map(|_| random.byte() % 3 * (random.byte() % 9)));
+            }
+        }
+        all_calls(&mut both, random, &matrix, &bytes);
+    });
+    both.assert_read(&[8, 9, 10, 11], 1);
+}

@@ -1,0 +1,184 @@
+//! The functions under the wrappers, as C calls them: what the wrappers hide. Every number of an answer is written, all are 0
+//! where it is a refusal, and run takes any numbers of bytes.
+
+use cases::{any_matrix, any_netlist, damage, damage_matrix, each, Met};
+
+extern "C" {
+    fn zaatarloft_compile(
+        matrix: *const u8,
+        matrix_length: usize,
+        buffer: *mut u8,
+        buffer_length: usize,
+        place: &mut usize,
+        written: &mut usize,
+        operations: &mut u16,
+        plain: &mut u16,
+        divisors: &mut u16,
+        replacements: &mut u16,
+        depth: &mut u16,
+    ) -> u8;
+    fn zaatarloft_read(
+        netlist: *const u8,
+        netlist_length: usize,
+        place: &mut usize,
+        m: &mut u8,
+        n: &mut u8,
+        operations: &mut u16,
+        depth: &mut u16,
+    ) -> u8;
+    fn zaatarloft_run(
+        netlist: *const u8,
+        netlist_length: usize,
+        samples: *const u8,
+        samples_length: usize,
+        outputs: *mut u8,
+        outputs_length: usize,
+        place: &mut usize,
+    ) -> u8;
+    fn zaatarloft_step(
+        bytes: *const u8,
+        bytes_length: usize,
+        at: usize,
+        place: &mut usize,
+        kind: &mut u16,
+        next: &mut usize,
+    ) -> u8;
+}
+
+/// Number and place of an answer.
+fn outcome<T>(answer: &Result<T, reference::Refusal>) -> (u8, usize) {
+    match answer {
+        Ok(_) => (0, 0),
+        Err(refusal) => (refusal.number, refusal.place),
+    }
+}
+
+#[test]
+fn numbers_of_compile() {
+    let mut met = Met::default();
+    each(11_000_000, 10_000, |random| {
+        let (matrix, other) = (any_matrix(random, 3, 3), any_matrix(random, 3, 3));
+        let record = damage_matrix(random, &matrix.record(), &other.record());
+        let room = random.between(0, 400);
+        let mut buffer = vec![0; room];
+        let (mut place, mut written) = (77, 77);
+        let mut counts = [77; 5];
+        let [operations, plain, divisors, replacements, depth] = &mut counts;
+        // SAFETY: all slices are valid for their lengths and distinct, as are the numbers.
+        let number = unsafe {
+            zaatarloft_compile(
+                record.as_ptr(),
+                record.len(),
+                buffer.as_mut_ptr(),
+                buffer.len(),
+                &mut place,
+                &mut written,
+                operations,
+                plain,
+                divisors,
+                replacements,
+                depth,
+            )
+        };
+        met.count(number);
+        let expected = reference::compile(&record, &mut vec![0; room]);
+        assert_eq!((number, place), outcome(&expected));
+        let expected = expected.map_or((0, [0; 5]), |c| {
+            let counts = [c.operations, c.plain, c.divisors, c.replacements, c.depth];
+            (c.written, counts)
+        });
+        assert_eq!((written, counts), expected);
+    });
+    met.assert_exactly("compile", &[0, 1, 2, 3, 4, 5, 6], 100);
+}
+
+#[test]
+fn numbers_of_read_and_step() {
+    let (mut met, mut stepped) = (Met::default(), Met::default());
+    each(12_000_000, 20_000, |random| {
+        let (m, n) = (random.between(1, 8), random.between(1, 8));
+        let operations = random.between(0, 9);
+        let right = any_netlist(random, m, n, operations);
+        let netlist = damage(random, &right, &right);
+        let (mut place, mut m, mut n, mut operations, mut depth) = (77, 77, 77, 77, 77);
+        // SAFETY: the slice is valid for its length, and the numbers are distinct.
+        let number = unsafe {
+            zaatarloft_read(
+                netlist.as_ptr(),
+                netlist.len(),
+                &mut place,
+                &mut m,
+                &mut n,
+                &mut operations,
+                &mut depth,
+            )
+        };
+        met.count(number);
+        let expected = reference::read(&netlist);
+        assert_eq!((number, place), outcome(&expected));
+        let expected = expected.map_or((0, 0, 0, 0), |r| (r.m, r.n, r.operations, r.depth));
+        assert_eq!((m, n, operations, depth), expected);
+
+        let at = random.between(0, netlist.len() + 3);
+        let (mut place, mut kind, mut next) = (77, 77, 77);
+        let bytes = netlist.as_ptr();
+        // SAFETY: the slice is valid for its length, and the numbers are distinct.
+        let number =
+            unsafe { zaatarloft_step(bytes, netlist.len(), at, &mut place, &mut kind, &mut next) };
+        stepped.count(number);
+        let expected = reference::step(&netlist, at);
+        assert_eq!((number, place), outcome(&expected));
+        assert_eq!((kind, next), expected.map_or((0, 0), |r| (r.kind, r.next)));
+    });
+    met.assert_exactly("read", &[0, 7, 8, 9, 10, 11, 12], 100);
+    stepped.assert_exactly("step", &[0, 7, 8], 100);
+}
+
+/// Samples of an odd number of bytes count as none, and so do outputs of bytes that are no multiple of 8.
+#[test]
+fn run_on_bytes() {
+    let mut met = Met::default();
+    each(13_000_000, 20_000, |random| {
+        let (m, n) = (random.between(1, 8), random.between(1, 8));
+        let operations = random.between(0, 9);
+        let right = any_netlist(random, m, n, operations);
+        let netlist = match random.between(0, 2) {
+            0 => damage(random, &right, &right),
+            _ => right,
+        };
+        let count = random.choose(&[2 * n, 2 * n, 2 * n, 2 * n + 1, 2 * n - 1, 0, 17, 100]);
+        let samples = random.bytes(count);
+        let count = random.choose(&[8 * m, 8 * m, 8 * m, 8 * m + 1, 8 * m - 1, 0, 72, 100]);
+        let old = random.bytes(count);
+        let mut outputs = old.clone();
+        let mut place = 77;
+        // SAFETY: all slices are valid for their lengths and distinct.
+        let number = unsafe {
+            zaatarloft_run(
+                netlist.as_ptr(),
+                netlist.len(),
+                samples.as_ptr(),
+                samples.len(),
+                outputs.as_mut_ptr(),
+                outputs.len(),
+                &mut place,
+            )
+        };
+        met.count(number);
+        let sample = |pair: &[u8]| i16::from_le_bytes([pair[0], pair[1]]);
+        let lent_samples = if samples.len() % 2 == 0 {
+            &samples[..]
+        } else {
+            &[]
+        };
+        let lent_samples: Vec<i16> = lent_samples.chunks_exact(2).map(sample).collect();
+        let lent_outputs = if old.len() % 8 == 0 { old.len() / 8 } else { 0 };
+        let mut values = vec![0; lent_outputs];
+        let expected = reference::run(&netlist, &lent_samples, &mut values);
+        assert_eq!((number, place), outcome(&expected));
+        let bytes = values.iter().flat_map(|value: &i64| value.to_le_bytes());
+        let expected = expected.map_or(old, |()| bytes.collect());
+        assert_eq!(outputs, expected);
+    });
+    met.assert_exactly("run", &[0, 7, 8, 9, 10, 11, 12, 15, 16], 100);
+}
