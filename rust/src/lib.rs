@@ -14,59 +14,10 @@
 //! # Ok::<(), zaatarloft::Refusal>(())
 //! ```
 
+pub mod raw;
+
 use std::error::Error;
 use std::fmt;
-
-// The declarations must agree with crates/ffi/src/lib.rt; nothing checks that. A slice is a pointer and a length. A function
-// keeps no pointer and writes only the buffer and the numbers lent to it. All numbers of an answer are written, also on a refusal.
-extern "C" {
-    fn zaatarloft_compile(
-        matrix: *const u8,
-        matrix_length: usize,
-        buffer: *mut u8,
-        buffer_length: usize,
-        place: &mut usize,
-        written: &mut usize,
-        operations: &mut u16,
-        plain: &mut u16,
-        divisors: &mut u16,
-        replacements: &mut u16,
-        depth: &mut u16,
-    ) -> u8;
-    fn zaatarloft_read(
-        netlist: *const u8,
-        netlist_length: usize,
-        place: &mut usize,
-        m: &mut u8,
-        n: &mut u8,
-        operations: &mut u16,
-        depth: &mut u16,
-    ) -> u8;
-    fn zaatarloft_check(
-        matrix: *const u8,
-        matrix_length: usize,
-        netlist: *const u8,
-        netlist_length: usize,
-        place: &mut usize,
-    ) -> u8;
-    fn zaatarloft_run(
-        netlist: *const u8,
-        netlist_length: usize,
-        samples: *const u8,
-        samples_length: usize,
-        outputs: *mut u8,
-        outputs_length: usize,
-        place: &mut usize,
-    ) -> u8;
-    fn zaatarloft_step(
-        bytes: *const u8,
-        bytes_length: usize,
-        at: usize,
-        place: &mut usize,
-        kind: &mut u16,
-        next: &mut usize,
-    ) -> u8;
-}
 
 /// Why a record was declined: document 01's number and place.
 #[derive(Debug, Clone, Copy, PartialEq, Eq)]
@@ -173,7 +124,7 @@ pub fn compile(matrix: &[u8], buffer: &mut [u8]) -> Result<Compiled, Refusal> {
     };
     // SAFETY: both slices are valid for their lengths, the buffer for writes, and all references are to distinct numbers.
     let number = unsafe {
-        zaatarloft_compile(
+        raw::zaatarloft_compile(
             matrix.as_ptr(),
             matrix.len(),
             buffer.as_mut_ptr(),
@@ -201,7 +152,7 @@ pub fn read(netlist: &[u8]) -> Result<Netlist, Refusal> {
     };
     // SAFETY: the slice is valid for its length, and all references are to distinct numbers.
     let number = unsafe {
-        zaatarloft_read(
+        raw::zaatarloft_read(
             netlist.as_ptr(),
             netlist.len(),
             &mut place,
@@ -219,7 +170,7 @@ pub fn check(matrix: &[u8], netlist: &[u8]) -> Result<(), Refusal> {
     let mut place = 0;
     // SAFETY: both slices are valid for their lengths.
     let number = unsafe {
-        zaatarloft_check(
+        raw::zaatarloft_check(
             matrix.as_ptr(),
             matrix.len(),
             netlist.as_ptr(),
@@ -247,7 +198,7 @@ pub fn run(netlist: &[u8], samples: &[i16], outputs: &mut [i64]) -> Result<(), R
     let mut place = 0;
     // SAFETY: all three slices are valid for their lengths, the outputs for writes, and none of them overlaps another.
     let number = unsafe {
-        zaatarloft_run(
+        raw::zaatarloft_run(
             netlist.as_ptr(),
             netlist.len(),
             sample_bytes.as_ptr(),
@@ -271,7 +222,7 @@ pub fn step(bytes: &[u8], place: usize) -> Result<Record<'_>, Refusal> {
     let mut next = 0;
     // SAFETY: the slice is valid for its length, and all references are to distinct numbers.
     let number = unsafe {
-        zaatarloft_step(
+        raw::zaatarloft_step(
             bytes.as_ptr(),
             bytes.len(),
             place,

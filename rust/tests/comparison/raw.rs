@@ -2,48 +2,7 @@
 //! where it is a refusal, and run takes any numbers of bytes.
 
 use cases::{any_matrix, any_netlist, damage, damage_matrix, each, Met};
-
-extern "C" {
-    fn zaatarloft_compile(
-        matrix: *const u8,
-        matrix_length: usize,
-        buffer: *mut u8,
-        buffer_length: usize,
-        place: &mut usize,
-        written: &mut usize,
-        operations: &mut u16,
-        plain: &mut u16,
-        divisors: &mut u16,
-        replacements: &mut u16,
-        depth: &mut u16,
-    ) -> u8;
-    fn zaatarloft_read(
-        netlist: *const u8,
-        netlist_length: usize,
-        place: &mut usize,
-        m: &mut u8,
-        n: &mut u8,
-        operations: &mut u16,
-        depth: &mut u16,
-    ) -> u8;
-    fn zaatarloft_run(
-        netlist: *const u8,
-        netlist_length: usize,
-        samples: *const u8,
-        samples_length: usize,
-        outputs: *mut u8,
-        outputs_length: usize,
-        place: &mut usize,
-    ) -> u8;
-    fn zaatarloft_step(
-        bytes: *const u8,
-        bytes_length: usize,
-        at: usize,
-        place: &mut usize,
-        kind: &mut u16,
-        next: &mut usize,
-    ) -> u8;
-}
+use zaatarloft::raw::{zaatarloft_compile, zaatarloft_read, zaatarloft_run, zaatarloft_step};
 
 /// Number and place of an answer.
 fn outcome<T>(answer: &Result<T, reference::Refusal>) -> (u8, usize) {
