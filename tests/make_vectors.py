@@ -11,6 +11,8 @@ import sys
 
 oracle = None
 FILL = 0xA5                     # what a lent buffer holds before
+HELD = -2 ** 62                 # what an output holds before
+COMPILE, CHECK, RUN = range(3)  # how a case of test_calls says which call it is of
 
 
 def two(x):
@@ -76,10 +78,10 @@ def compile_cases():
     yield 6136, record([[1, 2], [3, 4]])
 
 
-def test_compile():
+def compile_vectors():
     stdin, stdout = b"", ""
     for room, r in compile_cases():
-        stdin += two(room) + two(len(r)) + r
+        stdin += bytes([COMPILE]) + two(room) + two(len(r)) + r
         buffer = bytes([FILL]) * room
         try:
             c = oracle.compile(0, r, 16, room)
@@ -166,10 +168,10 @@ def check_cases():
     yield from damaged()
 
 
-def test_check():
+def check_vectors():
     stdin, lines = b"", []
     for r, net in check_cases():
-        stdin += two(len(r)) + two(len(net)) + r + net
+        stdin += bytes([CHECK]) + two(len(r)) + two(len(net)) + r + net
         try:
             t = oracle.Netlist(0, net)
             lines.append("read 0 0 %d %d %d %d" % (t.m, t.n, t.count, t.depth))
@@ -227,13 +229,10 @@ def run_cases():
         yield net, [([32767], 1), ([32767, -32768], 1), ([-1], 3), ([], 0)]
 
 
-HELD = -2 ** 62                 # what an output holds before
-
-
-def test_run():
+def run_vectors():
     stdin, lines = b"", []
     for net, runs in run_cases():
-        stdin += two(len(net)) + two(len(runs)) + net
+        stdin += bytes([RUN]) + two(len(net)) + two(len(runs)) + net
         for samples, outputs in runs:
             stdin += bytes([len(samples), outputs]) + b"".join(two(x % 65536) for x in samples)
             try:
@@ -242,6 +241,11 @@ def test_run():
                 answer = [e.number, e.place] + [HELD] * outputs
             lines.append(" ".join(map(str, answer)))
     return stdin, "\n".join(lines) + "\n"
+
+
+def test_calls():
+    parts = compile_vectors(), check_vectors(), run_vectors()
+    return b"".join(stdin for stdin, _ in parts), "".join(stdout for _, stdout in parts)
 
 
 def run_input(net, samples):
@@ -254,7 +258,7 @@ def run_bank():
     return run_input(net, samples), "".join("%d\n" % y for y in oracle.run(0, net, samples))
 
 
-PROGRAMS = {"run_bank": run_bank, "test_compile": test_compile, "test_check": test_check, "test_run": test_run}
+PROGRAMS = {"run_bank": run_bank, "test_calls": test_calls}
 
 
 def main(argv):
