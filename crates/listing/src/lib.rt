@@ -24,9 +24,6 @@ pub struct Counts {
     pub depth: u16,
 }
 
-// Bytes that hold the text of every compiled netlist: it has at most 504 operations and 8 outputs.
-pub const LONGEST_LISTING: usize = 24598;
-
 // A number in decimal: its digits are worked out from the last to the first, then copied.
 pub fn write_number(value: usize, text: &mut [u8]) -> usize
     requires { ⌜ length (number value) ≤ length (now text) ⌝ }
