@@ -41,7 +41,7 @@ fn fill_matrix(matrix: &mut [u8], length: u16) {
     fill_netlist(matrix, &mut netlist[..length as usize]);
 }
 
-pub fn check_case(matrix_length: u16, netlist_length: u16) {
+pub(crate) fn check_case(matrix_length: u16, netlist_length: u16) {
     let mut matrix = io::large_buffer();
     fill_matrix(&mut matrix[..matrix_length as usize], netlist_length);
 }

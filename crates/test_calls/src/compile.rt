@@ -49,7 +49,7 @@ fn fill_matrix(matrix: &mut [u8], room: u16) {
     compile_into(matrix, &mut buffer[..room as usize]);
 }
 
-pub fn compile_case(room: u16, length: u16) {
+pub(crate) fn compile_case(room: u16, length: u16) {
     let mut matrix = io::large_buffer();
     fill_matrix(&mut matrix[..length as usize], room);
 }

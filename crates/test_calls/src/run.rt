@@ -71,7 +71,7 @@ fn fill_netlist(netlist: &mut [u8], runs: u16) {
     }
 }
 
-pub fn run_case(length: u16, runs: u16) {
+pub(crate) fn run_case(length: u16, runs: u16) {
     let mut netlist = io::large_buffer();
     fill_netlist(&mut netlist[..length as usize], runs);
 }
