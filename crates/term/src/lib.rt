@@ -1,5 +1,7 @@
-// Document 01, "Digits and terms": a term has a symbol, an exponent (its left shift) and a sign. Rests on nothing.
+// Document 01, "Digits and terms": a term has a symbol, an exponent (its left shift) and a sign. Rests on `limits`.
 // The fields are private, so that nothing makes a term but the constructor, and every term is within the two limits.
+use limits::POSITIONS;
+use limits::TERM_SYMBOLS;
 ghost use mathlib.Core.Path.{_≡_};
 ghost use Prim.Native.Nat.{_≤_};
 
@@ -10,10 +12,10 @@ pub struct Term {
 }
 
 impl Term {
-    // "Two limits belong to the term itself": the first is that of every shift too.
-    pub const MAX_EXPONENT: u8 = 15;
+    // "Two limits belong to the term itself: highest exponent 15, highest symbol 259"; the first is that of every shift too.
+    pub const MAX_EXPONENT: u8 = (POSITIONS - 1) as u8;
 
-    pub const MAX_SYMBOL: u16 = 259;
+    pub const MAX_SYMBOL: u16 = (TERM_SYMBOLS - 1) as u16;
 
     pub fn new(symbol: u16, exponent: u8, negative: bool) -> Term
         requires { do ⌜ (symbol ≤ (← ⟦Term::MAX_SYMBOL⟧)) × (exponent ≤ (← ⟦Term::MAX_EXPONENT⟧)) ⌝ }

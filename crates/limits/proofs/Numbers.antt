@@ -1,0 +1,33 @@
+-- The limits that are worked out come to the numbers that document 01 states.
+-- Assumes nothing.
+use Prim.Native.Nat.{_+_, _*_, _-_, _^_, _≤_}
+use mathlib.Core.Path.{_≡_, refl}
+use native.Mathlib.Omega.{arith}
+use Rattle.limits.specs.Limits.{maxRows, maxColumns, maxOperations, maxShift, maxDigits, maxTerms, maxDivisors, termSymbols, symbols, columnBits, maxCompiledWidth}
+
+-- "Shifts are 0 to 15"
+shifts : maxShift ≡ 15
+shifts = refl
+
+-- "at most 8 digits are nonzero"
+digits : maxDigits ≡ 8
+digits = refl
+
+-- "Divisors number at most 252"
+divisors : maxDivisors ≡ 252
+divisors = refl
+
+-- "highest symbol 259"
+highest-symbol : termSymbols - 1 ≡ 259
+highest-symbol = refl
+
+-- "compiled ones at most 35"
+compiled-width : maxCompiledWidth ≡ 35
+compiled-width = refl
+
+-- the plain count of a matrix within the limits is at most the most operations
+pub rows-of-terms : maxRows * (maxTerms - 1) ≤ maxOperations
+rows-of-terms = omega arith
+
+pub columns-in-bits : maxColumns ≤ 2 ^ columnBits
+columns-in-bits = omega arith

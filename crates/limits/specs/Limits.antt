@@ -1,0 +1,63 @@
+-- Document 01's limits under the names that contracts and definitions cite, each once. What is not stated by a number is worked out from
+-- those that are; proofs/Numbers.antt says that these come to document 01's own.
+-- Assumes nothing.
+use Prim.Native.Nat.{ℕ, _+_, _*_, _-_, _/_}
+
+-- ---- stated
+
+-- "m (1 byte), n (1 byte), each 1 to 8"
+abbrev pub maxRows : ℕ
+maxRows = 8
+
+abbrev pub maxColumns : ℕ
+maxColumns = 8
+
+-- "Positions run 0 to 15"
+abbrev pub positions : ℕ
+positions = 16
+
+-- "over all samples from −32,768 to 32,767"
+abbrev pub sampleWidth : ℕ
+sampleWidth = 16
+
+-- "operations (2 bytes, at most 504)"
+abbrev pub maxOperations : ℕ
+maxOperations = 504
+
+-- "widths read are at most 40"
+abbrev pub maxWidth : ℕ
+maxWidth = 40
+
+-- ---- worked out
+
+-- "Shifts are 0 to 15", and so are exponents
+abbrev pub maxShift : ℕ
+maxShift = positions - 1
+
+-- "at most 8 digits are nonzero": no two of them are neighbours
+abbrev pub maxDigits : ℕ
+maxDigits = (positions + 1) / 2
+
+-- the most terms of a row
+abbrev pub maxTerms : ℕ
+maxTerms = maxColumns * maxDigits
+
+-- "Divisors number at most 252": each takes the place of at least two operations
+abbrev pub maxDivisors : ℕ
+maxDivisors = maxOperations / 2
+
+-- the symbols of terms in rows, inputs and divisors: "highest symbol 259"
+abbrev pub termSymbols : ℕ
+termSymbols = maxColumns + maxDivisors
+
+-- the symbols of a netlist, inputs and operations
+abbrev pub symbols : ℕ
+symbols = maxColumns + maxOperations
+
+-- so many bits hold the number of a column
+abbrev pub columnBits : ℕ
+columnBits = 3
+
+-- "compiled ones at most 35"
+abbrev pub maxCompiledWidth : ℕ
+maxCompiledWidth = positions + sampleWidth + columnBits

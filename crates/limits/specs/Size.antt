@@ -1,0 +1,20 @@
+-- Document 01, "Matrix record": "m (1 byte), n (1 byte), each 1 to 8", as a statement and as the test of refusals 4 and 9.
+-- Assumes nothing.
+use Prim.Native.Nat.{ℕ, _≤_}
+use mathlib.Core.Bool.{Bool, _||_}
+use lib.Dec.{ltb}
+use Rattle.limits.specs.Limits.{maxRows, maxColumns}
+
+pub record SizeLimits (m n : ℕ) : Type 0 where
+  pub rows-least : 1 ≤ m
+  pub rows-most : m ≤ maxRows
+  pub columns-least : 1 ≤ n
+  pub columns-most : n ≤ maxColumns
+
+-- outside 1 to most
+abbrev pub outside : ℕ → ℕ → Bool
+outside most x = ltb x 1 || ltb most x
+
+-- "m or n outside 1 to 8"
+abbrev pub sizeOutside : ℕ → ℕ → Bool
+sizeOutside m n = outside maxRows m || outside maxColumns n
