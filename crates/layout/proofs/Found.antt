@@ -48,7 +48,7 @@ module _ (b : List ℕ) (place kind : ℕ) (payload behind : List ℕ) (there : 
   pub step-finds : stepNumbers b place ≡ accepted kind (place + (4 + length payload))
   step-finds = sym (numbers-accepted b place (sym accepted-there)) ∙ ap₂ (λ (k l : ℕ). accepted k (place + l)) kind-there length-there
 
-  behind-header : drop (place + 4) b ≡ payload ++ behind
+  pub behind-header : drop (place + 4) b ≡ payload ++ behind
   behind-header = sym (drop-drop 4 place b) ∙ ap (drop 4) there
 
   pub payload-found : payloadAt b place ≡ payload

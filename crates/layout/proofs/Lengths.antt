@@ -1,4 +1,4 @@
--- The length of each record and of a netlist's bytes, and where its records stand.
+-- The length of each record and of a netlist's bytes, and that its records stand at their places, behind a head of any length.
 -- Assumes nothing.
 use Prim.Native.Nat.{ℕ, zero, suc, _+_, _*_, _<_}
 use mathlib.Core.Path.{_≡_, refl, sym, ap, ap₂, _∙_}
@@ -6,25 +6,26 @@ use mathlib.Core.List.{List, [], _∷_, _++_, flatMap, append-assoc}
 use native.Mathlib.Omega.{arith}
 use lib.ListN.{length, getD, drop, length-append}
 use lib.Seq.{drop-at, drop-append-add, drop-drop}
-use Rattle.layout.specs.Records.{Netlist, headPayload, headBytes, operationPayload, operationBytes, outputPayload, outputBytes, totalsPayload, totalsBytes, netlistBytes}
+use Rattle.layout.specs.Records.{Netlist, headPayload, headLength, headBytes, operationPayload, operationLength, operationBytes, outputPayload, outputLength, outputBytes, totalsPayload, totalsLength, totalsBytes, netlistBytes}
+use Rattle.layout.specs.Places.{operationPlace, outputPlace, totalsPlace, netlistLength, enoughBytes}
 use Rattle.layout.specs.declared.Head.{Head}
 use Rattle.layout.specs.declared.Operation.{Operation}
 use Rattle.layout.specs.declared.Output.{Output}
 use Rattle.layout.specs.declared.Totals.{Totals}
 
-pub length-head : (h : Head) → length (headBytes h) ≡ 8
+pub length-head : (h : Head) → length (headBytes h) ≡ headLength
 unfolding headPayload
 length-head h = refl
 
-pub length-operation : (o : Operation) → length (operationBytes o) ≡ 12
+pub length-operation : (o : Operation) → length (operationBytes o) ≡ operationLength
 unfolding operationPayload
 length-operation o = refl
 
-pub length-output : (o : Output) → length (outputBytes o) ≡ 9
+pub length-output : (o : Output) → length (outputBytes o) ≡ outputLength
 unfolding outputPayload
 length-output o = refl
 
-pub length-totals : (t : Totals) → length (totalsBytes t) ≡ 8
+pub length-totals : (t : Totals) → length (totalsBytes t) ≡ totalsLength
 unfolding totalsPayload
 length-totals t = refl
 
@@ -35,11 +36,15 @@ length-records bytes n each [] = omega arith
 length-records bytes n each (x ∷ xs) =
     length-append (bytes x) (flatMap bytes xs) ∙ ap₂ _+_ (each x) (length-records bytes n each xs) ∙ omega arith
 
-pub length-netlist : (n : Netlist) → length (netlistBytes n) ≡ 8 + 12 * length (n .operations) + 9 * length (n .outputs) + 8
+pub length-netlist : (n : Netlist) → length (netlistBytes n) ≡ netlistLength headLength (length (n .operations)) (length (n .outputs))
 unfolding netlistBytes
 length-netlist n =
     simp length-append
-    (omega (arith, length-head (n .head), length-records operationBytes 12 length-operation (n .operations), length-records outputBytes 9 length-output (n .outputs), length-totals (n .totals)))
+    (omega (arith, length-head (n .head), length-records operationBytes operationLength length-operation (n .operations), length-records outputBytes outputLength length-output (n .outputs), length-totals (n .totals)))
+
+-- "6,136 bytes always suffice."
+enough-bytes : enoughBytes ≡ 6136
+enough-bytes = refl
 
 -- ---- where each record stands, one after another
 
@@ -60,35 +65,50 @@ pub records-end : {A : Type 0} (bytes : A → List ℕ) (n : ℕ) → ((x : A) �
     → drop (n * length xs) (flatMap bytes xs ++ behind) ≡ behind
 records-end bytes n each xs behind = drop-at (flatMap bytes xs) behind (n * length xs) (length-records bytes n each xs)
 
--- a netlist's operation i stands at 8 + 12·i, output i at 9·i behind the operations, the totals behind the outputs
-module _ (n : Netlist) where
-  tail : List ℕ
-  tail = flatMap outputBytes (n .outputs) ++ totalsBytes (n .totals)
+-- behind the bytes of a head, the operations, the outputs and what follows them
+module _ (head : ℕ) (first : List ℕ) (sized : length first ≡ head) (os : List Operation) (outputs : List Output) (last : List ℕ) where
+  abbrev pub laidOut : List ℕ
+  laidOut = first ++ (flatMap operationBytes os ++ (flatMap outputBytes outputs ++ last))
 
-  behind-head : (k : ℕ) → drop (8 + k) (netlistBytes n) ≡ drop k (flatMap operationBytes (n .operations) ++ tail)
-  unfolding netlistBytes headPayload tail
-  behind-head k = drop-append-add (headBytes (n .head)) (flatMap operationBytes (n .operations) ++ tail) k
+  behind-head : (k : ℕ) → drop (head + k) laidOut ≡ drop k (flatMap operationBytes os ++ (flatMap outputBytes outputs ++ last))
+  behind-head k =
+      ap (λ (h : ℕ). drop (h + k) laidOut) (sym sized)
+      ∙ drop-append-add first (flatMap operationBytes os ++ (flatMap outputBytes outputs ++ last)) k
 
-  behind-operations : (k : ℕ) → drop (8 + 12 * length (n .operations) + k) (netlistBytes n) ≡ drop k tail
+  behind-operations : (k : ℕ) → drop (operationPlace head (length os) + k) laidOut ≡ drop k (flatMap outputBytes outputs ++ last)
   behind-operations k =
-      let at : 8 + 12 * length (n .operations) + k ≡ 8 + (12 * length (n .operations) + k) = omega arith in
-      ap (λ (j : ℕ). drop j (netlistBytes n)) at
-      ∙ behind-head (12 * length (n .operations) + k)
-      ∙ sym (drop-drop k (12 * length (n .operations)) (flatMap operationBytes (n .operations) ++ tail))
-      ∙ ap (drop k) (records-end operationBytes 12 length-operation (n .operations) tail)
+      let at : operationPlace head (length os) + k ≡ head + (operationLength * length os + k) = omega arith in
+      ap (λ (j : ℕ). drop j laidOut) at
+      ∙ behind-head (operationLength * length os + k)
+      ∙ sym (drop-drop k (operationLength * length os) (flatMap operationBytes os ++ (flatMap outputBytes outputs ++ last)))
+      ∙ ap (drop k) (records-end operationBytes operationLength length-operation os (flatMap outputBytes outputs ++ last))
 
+  pub operation-stands : (i : ℕ) (d : Operation) → i < length os
+      → drop (operationPlace head i) laidOut ≡ operationBytes (getD os i d) ++ (flatMap operationBytes (drop (suc i) os) ++ (flatMap outputBytes outputs ++ last))
+  operation-stands i d h =
+      behind-head (operationLength * i) ∙ records-at operationBytes operationLength length-operation os (flatMap outputBytes outputs ++ last) i d h
+
+  pub output-stands : (i : ℕ) (d : Output) → i < length outputs
+      → drop (outputPlace head (length os) i) laidOut ≡ outputBytes (getD outputs i d) ++ (flatMap outputBytes (drop (suc i) outputs) ++ last)
+  output-stands i d h = behind-operations (outputLength * i) ∙ records-at outputBytes outputLength length-output outputs last i d h
+
+  pub last-stands : drop (totalsPlace head (length os) (length outputs)) laidOut ≡ last
+  last-stands = behind-operations (outputLength * length outputs) ∙ records-end outputBytes outputLength length-output outputs last
+
+-- a netlist's operation i, output i and totals
+module _ (n : Netlist) where
   pub operation-place : (i : ℕ) (d : Operation) → i < length (n .operations)
-      → drop (8 + 12 * i) (netlistBytes n)
+      → drop (operationPlace headLength i) (netlistBytes n)
       ≡ operationBytes (getD (n .operations) i d) ++ (flatMap operationBytes (drop (suc i) (n .operations)) ++ (flatMap outputBytes (n .outputs) ++ totalsBytes (n .totals)))
-  unfolding tail
-  operation-place i d h = behind-head (12 * i) ∙ records-at operationBytes 12 length-operation (n .operations) tail i d h
+  unfolding netlistBytes
+  operation-place = operation-stands headLength (headBytes (n .head)) (length-head (n .head)) (n .operations) (n .outputs) (totalsBytes (n .totals))
 
   pub output-place : (i : ℕ) (d : Output) → i < length (n .outputs)
-      → drop (8 + 12 * length (n .operations) + 9 * i) (netlistBytes n)
+      → drop (outputPlace headLength (length (n .operations)) i) (netlistBytes n)
       ≡ outputBytes (getD (n .outputs) i d) ++ (flatMap outputBytes (drop (suc i) (n .outputs)) ++ totalsBytes (n .totals))
-  unfolding tail
-  output-place i d h = behind-operations (9 * i) ∙ records-at outputBytes 9 length-output (n .outputs) (totalsBytes (n .totals)) i d h
+  unfolding netlistBytes
+  output-place = output-stands headLength (headBytes (n .head)) (length-head (n .head)) (n .operations) (n .outputs) (totalsBytes (n .totals))
 
-  pub totals-place : drop (8 + 12 * length (n .operations) + 9 * length (n .outputs)) (netlistBytes n) ≡ totalsBytes (n .totals)
-  unfolding tail
-  totals-place = behind-operations (9 * length (n .outputs)) ∙ records-end outputBytes 9 length-output (n .outputs) (totalsBytes (n .totals))
+  pub totals-place : drop (totalsPlace headLength (length (n .operations)) (length (n .outputs))) (netlistBytes n) ≡ totalsBytes (n .totals)
+  unfolding netlistBytes
+  totals-place = last-stands headLength (headBytes (n .head)) (length-head (n .head)) (n .operations) (n .outputs) (totalsBytes (n .totals))

@@ -8,3 +8,5 @@ pub mod Fields
 pub mod Lengths
 pub mod Found
 pub mod RecordKinds
+pub mod FirstRecords
+pub mod InBytes

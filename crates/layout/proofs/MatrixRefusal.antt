@@ -2,15 +2,17 @@
 -- Assumes nothing.
 use Prim.Native.Nat.{ℕ, _+_, _*_, _<_, _≤_}
 use mathlib.Core.Path.{_≡_}
-use mathlib.Core.Bool.{Bool, true, false, not, _||_}
+use mathlib.Core.Bool.{true, false, not}
 use mathlib.Core.List.{List}
 use native.Mathlib.Omega.{arith}
 use lib.Dec.{ltb, eqb}
 use lib.ListN.{length}
 use borrow.Author.Tests.{lt-ltb, le-ltb, eq-eqb, ne-eqb, ltb-false, eqb-true, not-false}
+use Rattle.limits.specs.Size.{SizeLimits, sizeOutside}
+use Rattle.limits.proofs.Size.{size-within}
 use Rattle.layout.proofs.Refusal.{passed}
 use Rattle.layout.specs.Bytes.{word}
-use Rattle.layout.specs.Matrix.{rows, columns, outside, matrixRefusal}
+use Rattle.layout.specs.Matrix.{rows, columns, matrixLength, matrixRefusal}
 
 module _ (b : List ℕ) where
   pub too-short : length b < 6 → 1 ≡ matrixRefusal b
@@ -28,20 +30,20 @@ module _ (b : List ℕ) where
       other-kind h = simp (le-ltb (length b) 6 enough, eq-eqb (word b 0) (length b) counted, ne-eqb (word b 2) 1 h)
 
       module _ (kind : word b 2 ≡ 1) where
-        pub out-of-limits : (outside (rows b) || outside (columns b)) ≡ true → 4 ≡ matrixRefusal b
+        pub out-of-limits : sizeOutside (rows b) (columns b) ≡ true → 4 ≡ matrixRefusal b
         unfolding matrixRefusal
         out-of-limits h = simp (le-ltb (length b) 6 enough, eq-eqb (word b 0) (length b) counted, eq-eqb (word b 2) 1 kind, h)
 
-        module _ (limits : (outside (rows b) || outside (columns b)) ≡ false) where
-          pub other-size : (length b ≡ 6 + 2 * rows b * columns b → ⊥) → 5 ≡ matrixRefusal b
+        module _ (limits : sizeOutside (rows b) (columns b) ≡ false) where
+          pub other-size : (length b ≡ matrixLength (rows b) (columns b) → ⊥) → 5 ≡ matrixRefusal b
           unfolding matrixRefusal
           other-size h =
-              simp (le-ltb (length b) 6 enough, eq-eqb (word b 0) (length b) counted, eq-eqb (word b 2) 1 kind, limits, ne-eqb (length b) (6 + 2 * rows b * columns b) h)
+              simp (le-ltb (length b) 6 enough, eq-eqb (word b 0) (length b) counted, eq-eqb (word b 2) 1 kind, limits, ne-eqb (length b) (matrixLength (rows b) (columns b)) h)
 
-          pub none : length b ≡ 6 + 2 * rows b * columns b → 0 ≡ matrixRefusal b
+          pub none : length b ≡ matrixLength (rows b) (columns b) → 0 ≡ matrixRefusal b
           unfolding matrixRefusal
           none h =
-              simp (le-ltb (length b) 6 enough, eq-eqb (word b 0) (length b) counted, eq-eqb (word b 2) 1 kind, limits, eq-eqb (length b) (6 + 2 * rows b * columns b) h)
+              simp (le-ltb (length b) 6 enough, eq-eqb (word b 0) (length b) counted, eq-eqb (word b 2) 1 kind, limits, eq-eqb (length b) (matrixLength (rows b) (columns b)) h)
 
 -- ---- what an accepted record is
 
@@ -49,20 +51,8 @@ pub record AcceptedMatrix (b : List ℕ) : Type 0 where
   pub enough : 6 ≤ length b
   pub counted : word b 0 ≡ length b
   pub kind : word b 2 ≡ 1
-  pub rows-least : 1 ≤ rows b
-  pub rows-most : rows b ≤ 8
-  pub columns-least : 1 ≤ columns b
-  pub columns-most : columns b ≤ 8
-  pub size : length b ≡ 6 + 2 * rows b * columns b
-
-or-false : (p q : Bool) → (p || q) ≡ false → (p ≡ false) × (q ≡ false)
-or-false true q e = absurd (let z : _≡_ {A = ℕ} 0 1 = cc in omega arith)
-or-false false q e = (cc, e)
-
-within : (x : ℕ) → outside x ≡ false → (1 ≤ x) × (x ≤ 8)
-within x e =
-    let both = or-false (ltb x 1) (ltb 8 x) e in
-    (ltb-false x 1 (both .0), ltb-false 8 x (both .1))
+  pub limits : SizeLimits (rows b) (columns b)
+  pub size : length b ≡ matrixLength (rows b) (columns b)
 
 pub accepted-matrix : (b : List ℕ) → matrixRefusal b ≡ 0 → AcceptedMatrix b
 unfolding matrixRefusal
@@ -70,18 +60,12 @@ accepted-matrix b e =
     let past-short = passed (ltb (length b) 6) 1 _ (omega arith) e in
     let past-length = passed (not (eqb (word b 0) (length b))) 2 _ (omega arith) (past-short .1) in
     let past-kind = passed (not (eqb (word b 2) 1)) 3 _ (omega arith) (past-length .1) in
-    let past-limits = passed (outside (rows b) || outside (columns b)) 4 _ (omega arith) (past-kind .1) in
-    let past-size = passed (not (eqb (length b) (6 + 2 * rows b * columns b))) 5 0 (omega arith) (past-limits .1) in
-    let limits = or-false (outside (rows b)) (outside (columns b)) (past-limits .0) in
-    let m = within (rows b) (limits .0) in
-    let n = within (columns b) (limits .1) in
+    let past-limits = passed (sizeOutside (rows b) (columns b)) 4 _ (omega arith) (past-kind .1) in
+    let past-size = passed (not (eqb (length b) (matrixLength (rows b) (columns b)))) 5 0 (omega arith) (past-limits .1) in
     record {
       enough = ltb-false (length b) 6 (past-short .0);
       counted = eqb-true (word b 0) (length b) (not-false _ (past-length .0));
       kind = eqb-true (word b 2) 1 (not-false _ (past-kind .0));
-      rows-least = m .0;
-      rows-most = m .1;
-      columns-least = n .0;
-      columns-most = n .1;
-      size = eqb-true (length b) (6 + 2 * rows b * columns b) (not-false _ (past-size .0));
+      limits = size-within (rows b) (columns b) (past-limits .0);
+      size = eqb-true (length b) (matrixLength (rows b) (columns b)) (not-false _ (past-size .0));
     }

@@ -15,7 +15,7 @@ use Rattle.integers.proofs.Expression.{nat, minus, _⊝_, at-most}
 use Rattle.layout.proofs.LittleEndian.{AreBytes, word-below}
 use Rattle.layout.proofs.MatrixRefusal.{AcceptedMatrix}
 use Rattle.layout.specs.Bytes.{word}
-use Rattle.layout.specs.Matrix.{rows, columns, signedWord, coefficientAt, coefficientsFrom, rowsFrom, matrix}
+use Rattle.layout.specs.Matrix.{rows, columns, signedWord, coefficientPlace, coefficientAt, coefficientsFrom, rowsFrom, matrix}
 
 module _ (b : List ℕ) where
   length-coefficients : (index k : ℕ) → length (coefficientsFrom b index k) ≡ k
@@ -55,7 +55,7 @@ module _ (b : List ℕ) where
   matrix-at i j h k = ap (λ (row : List ℤ). getD row j (pos 0)) (matrix-row i h) ∙ coefficients-at (i * columns b) (columns b) j k
 
   -- the bytes of each coefficient are there
-  pub coefficient-there : AcceptedMatrix b → (i j : ℕ) → i < rows b → j < columns b → 7 + 2 * (i * columns b + j) < length b
+  pub coefficient-there : AcceptedMatrix b → (i j : ℕ) → i < rows b → j < columns b → coefficientPlace (i * columns b + j) + 1 < length b
   coefficient-there a i j h k =
       let up-to : 2 * suc i * columns b ≤ 2 * rows b * columns b = mul-le-mul (omega arith) (le-refl (columns b)) in
       omega arith
@@ -76,4 +76,4 @@ signed-word-range x h = go (ltb x 32768) refl
 
 pub coefficient-range : (b : List ℕ) → AreBytes b → (index : ℕ) → (negsuc 32767 ≤ℤ coefficientAt b index) × (coefficientAt b index ≤ℤ pos 32767)
 unfolding coefficientAt
-coefficient-range b all index = signed-word-range (word b (6 + 2 * index)) (word-below b all (6 + 2 * index))
+coefficient-range b all index = signed-word-range (word b (coefficientPlace index)) (word-below b all (coefficientPlace index))

@@ -1,16 +1,19 @@
 -- The kinds of a netlist's records, 2 to 5, under one law: a record that stands at a place is found and its fields read back, and
 -- where the step accepts a payload of the kind's length, the bytes are those of the fields read.
 -- Assumes nothing.
-use Prim.Native.Nat.{ℕ, _+_}
-use mathlib.Core.Path.{_≡_, refl, sym, ap, _∙_}
+use Prim.Native.Nat.{ℕ, _+_, _-_}
+use mathlib.Core.Path.{_≡_, refl, sym, ap, ap₂, _∙_}
 use mathlib.Core.List.{List, _++_}
-use lib.ListN.{length, drop}
+use native.Mathlib.Omega.{arith}
+use lib.ListN.{length, take, drop}
+use lib.Seq.{take-at}
 use Rattle.layout.proofs.LittleEndian.{AreBytes}
 use Rattle.layout.proofs.Fields.{head-back, head-bytes, operation-back, operation-bytes, output-back, output-bytes, totals-back, totals-bytes}
-use Rattle.layout.proofs.Found.{accepted, step-finds, payload-found, behind-found, next-place, payload-bytes, record-there}
+use Rattle.layout.proofs.Found.{accepted, step-finds, payload-found, behind-header, behind-found, next-place, payload-bytes, record-there}
 use Rattle.layout.specs.Bytes.{recordBytes}
-use Rattle.layout.specs.Records.{headPayload, headOf, operationPayload, operationOf, outputPayload, outputOf, totalsPayload, totalsOf}
+use Rattle.layout.specs.Records.{headKind, headLength, headPayload, headOf, operationKind, operationLength, operationPayload, operationOf, outputKind, outputLength, outputPayload, outputOf, totalsKind, totalsLength, totalsPayload, totalsOf}
 use Rattle.layout.specs.Step.{stepNumbers, payloadAt}
+use Rattle.layout.specs.Places.{payloadOf}
 use Rattle.layout.specs.declared.Head.{Head}
 use Rattle.layout.specs.declared.Operation.{Operation}
 use Rattle.layout.specs.declared.Output.{Output}
@@ -28,13 +31,13 @@ pub record Kind (A : Type 0) : Type 0 where
 
 abbrev pub head : Kind Head
 unfolding headPayload
-head = record { number = 2; size = 4; payload = headPayload; fields = headOf; sized = λ x. refl; back = head-back; bytes = head-bytes }
+head = record { number = headKind; size = headLength - 4; payload = headPayload; fields = headOf; sized = λ x. refl; back = head-back; bytes = head-bytes }
 
 abbrev pub operation : Kind Operation
 unfolding operationPayload
 operation = record {
-  number = 3;
-  size = 8;
+  number = operationKind;
+  size = operationLength - 4;
   payload = operationPayload;
   fields = operationOf;
   sized = λ x. refl;
@@ -45,8 +48,8 @@ operation = record {
 abbrev pub output : Kind Output
 unfolding outputPayload
 output = record {
-  number = 4;
-  size = 5;
+  number = outputKind;
+  size = outputLength - 4;
   payload = outputPayload;
   fields = outputOf;
   sized = λ x. refl;
@@ -57,14 +60,20 @@ output = record {
 abbrev pub totals : Kind Totals
 unfolding totalsPayload
 totals = record {
-  number = 5;
-  size = 4;
+  number = totalsKind;
+  size = totalsLength - 4;
   payload = totalsPayload;
   fields = totalsOf;
   sized = λ x. refl;
   back = totals-back;
   bytes = totals-bytes;
 }
+
+payload-stands : (b : List ℕ) (place : ℕ) (payload behind : List ℕ) {size : ℕ} → drop (place + 4) b ≡ payload ++ behind → length payload ≡ size
+    → payloadOf b place (4 + size) ≡ payload
+payload-stands b place payload behind {size} header l =
+    let counted : 4 + size - 4 ≡ size = omega arith in
+    ap₂ take counted header ∙ take-at payload behind size l
 
 module _ {A : Type 0} (k : Kind A) where
   -- the bytes of a record of the kind
@@ -75,7 +84,7 @@ module _ {A : Type 0} (k : Kind A) where
   pub record Found (b : List ℕ) (place : ℕ) (x : A) (behind : List ℕ) : Type 0 where
     pub numbers : stepNumbers b place ≡ accepted (k .number) (place + (4 + k .size))
     pub length-read : length (payloadAt b place) ≡ k .size
-    pub fields-read : k .fields (payloadAt b place) ≡ x
+    pub fields-read : k .fields (payloadOf b place (4 + k .size)) ≡ x
     pub behind-next : drop (place + (4 + k .size)) b ≡ behind
 
   -- a record that stands at a place is found
@@ -86,15 +95,18 @@ module _ {A : Type 0} (k : Kind A) where
       record {
         numbers = step-finds b place (k .number) p behind there ∙ ap (λ (l : ℕ). accepted (k .number) (place + (4 + l))) (k .sized x);
         length-read = ap length same ∙ k .sized x;
-        fields-read = ap (k .fields) same ∙ k .back x;
+        fields-read = ap (k .fields) (payload-stands b place p behind (behind-header b place (k .number) p behind there) (k .sized x)) ∙ k .back x;
         behind-next = ap (λ (l : ℕ). drop (place + (4 + l)) b) (sym (k .sized x)) ∙ behind-found b place (k .number) p behind there;
       }
 
   -- where the step accepts the kind and the payload has its length, the bytes are those of the fields read
   pub there : (b : List ℕ) (place next : ℕ) → AreBytes b → stepNumbers b place ≡ accepted (k .number) next → length (payloadAt b place) ≡ k .size
-      → (drop place b ≡ bytesOf (k .fields (payloadAt b place)) ++ drop next b) × (next ≡ place + (4 + k .size))
-  there b place next all step l = (
-    record-there b place all (k .number) next step
-        ∙ ap (λ (p : List ℕ). recordBytes (k .number) p ++ drop next b) (sym (k .bytes (payloadAt b place) (payload-bytes b place all (k .number) next step) l)),
-    next-place b place all (k .number) next step ∙ ap (λ (n : ℕ). place + (4 + n)) l,
-  )
+      → (drop place b ≡ bytesOf (k .fields (payloadOf b place (4 + k .size))) ++ drop next b) × (next ≡ place + (4 + k .size))
+  there b place next all step l =
+      let stands = record-there b place all (k .number) next step in
+      let same = payload-stands b place (payloadAt b place) (drop next b) (behind-header b place (k .number) (payloadAt b place) (drop next b) stands) l in (
+        stands
+            ∙ ap (λ (p : List ℕ). recordBytes (k .number) p ++ drop next b) (sym (k .bytes (payloadAt b place) (payload-bytes b place all (k .number) next step) l))
+            ∙ ap (λ (p : List ℕ). bytesOf (k .fields p) ++ drop next b) (sym same),
+        next-place b place all (k .number) next step ∙ ap (λ (n : ℕ). place + (4 + n)) l,
+      )

@@ -2,4 +2,5 @@ pub mod Bytes
 pub mod Records
 pub mod Matrix
 pub mod Step
+pub mod Places
 pub mod Written

@@ -1,11 +1,12 @@
 -- Document 01, "Matrix record" and "Why a record was declined": refusals 1 to 5, and the matrix of a record.
 -- Assumes nothing.
 use Prim.Native.Nat.{ℕ, zero, suc, _+_, _*_}
-use mathlib.Core.Bool.{Bool, cond, not, _||_}
+use mathlib.Core.Bool.{cond, not}
 use mathlib.Core.List.{List, [], _∷_}
 use lib.Dec.{ltb, eqb}
 use lib.IntN.{ℤ, pos, _-ℤ_}
 use lib.ListN.{length, getD}
+use Rattle.limits.specs.Size.{sizeOutside}
 use Rattle.layout.specs.Bytes.{word}
 
 -- m and n, 1 byte each, after length and kind
@@ -15,9 +16,13 @@ rows bytes = getD bytes 4 0
 abbrev pub columns : List ℕ → ℕ
 columns bytes = getD bytes 5 0
 
--- outside 1 to 8
-abbrev pub outside : ℕ → Bool
-outside x = ltb x 1 || ltb 8 x
+-- the coefficients stand behind n, 2 bytes each
+abbrev pub coefficientPlace : ℕ → ℕ
+coefficientPlace index = 6 + 2 * index
+
+-- "Length 6 + 2 times m times n"
+abbrev pub matrixLength : ℕ → ℕ → ℕ
+matrixLength m n = coefficientPlace (m * n)
 
 -- the first of the refusals 1 to 5 that applies, 0 for none
 unfoldable pub matrixRefusal : List ℕ → ℕ
@@ -28,17 +33,17 @@ matrixRefusal bytes =
     2
     (cond (not (eqb (word bytes 2) 1))
     3
-    (cond (outside (rows bytes) || outside (columns bytes))
+    (cond (sizeOutside (rows bytes) (columns bytes))
     4
-    (cond (not (eqb (length bytes) (6 + 2 * rows bytes * columns bytes))) 5 0))))
+    (cond (not (eqb (length bytes) (matrixLength (rows bytes) (columns bytes)))) 5 0))))
 
 -- two's complement of two bytes
 unfoldable pub signedWord : ℕ → ℤ
 signedWord x = cond (ltb x 32768) (pos x) (pos x -ℤ pos 65536)
 
--- the coefficient of an index, in the record's order, 2 bytes each
+-- the coefficient of an index, in the record's order
 unfoldable pub coefficientAt : List ℕ → ℕ → ℤ
-coefficientAt bytes index = signedWord (word bytes (6 + 2 * index))
+coefficientAt bytes index = signedWord (word bytes (coefficientPlace index))
 
 -- so many coefficients from an index on
 unfoldable pub coefficientsFrom : List ℕ → ℕ → ℕ → List ℤ

@@ -34,19 +34,43 @@ outputPayload o = o .sign ∷ littleEndian (o .symbol) ++ o .shift ∷ o .width 
 unfoldable pub totalsPayload : Totals → List ℕ
 totalsPayload t = littleEndian (t .operations) ++ littleEndian (t .depth)
 
--- ---- the records: kind 2, head; kind 3, operation; kind 4, output; kind 5, totals
+-- ---- the records: "kind 2, head, length 8", "kind 3, operation, length 12", "kind 4, output, length 9", "kind 5, totals, length 8"
+
+abbrev pub headKind : ℕ
+headKind = 2
+
+abbrev pub headLength : ℕ
+headLength = 8
 
 abbrev pub headBytes : Head → List ℕ
-headBytes h = recordBytes 2 (headPayload h)
+headBytes h = recordBytes headKind (headPayload h)
+
+abbrev pub operationKind : ℕ
+operationKind = 3
+
+abbrev pub operationLength : ℕ
+operationLength = 12
 
 abbrev pub operationBytes : Operation → List ℕ
-operationBytes o = recordBytes 3 (operationPayload o)
+operationBytes o = recordBytes operationKind (operationPayload o)
+
+abbrev pub outputKind : ℕ
+outputKind = 4
+
+abbrev pub outputLength : ℕ
+outputLength = 9
 
 abbrev pub outputBytes : Output → List ℕ
-outputBytes o = recordBytes 4 (outputPayload o)
+outputBytes o = recordBytes outputKind (outputPayload o)
+
+abbrev pub totalsKind : ℕ
+totalsKind = 5
+
+abbrev pub totalsLength : ℕ
+totalsLength = 8
 
 abbrev pub totalsBytes : Totals → List ℕ
-totalsBytes t = recordBytes 5 (totalsPayload t)
+totalsBytes t = recordBytes totalsKind (totalsPayload t)
 
 -- the head, the operations, the outputs, the totals
 unfoldable pub netlistBytes : Netlist → List ℕ

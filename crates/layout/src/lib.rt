@@ -2,6 +2,7 @@
 pub mod little_endian; // little_endian.rt: little-endian numbers in lent bytes
 pub mod matrix; // matrix.rt: the matrix record: refusals 1 to 5, coefficients
 pub mod step; // step.rt: the step over a record
+pub mod places; // places.rt: the kinds, lengths and places of a netlist's records
 pub mod write; // write.rt: a writer for each kind of record of a netlist
 pub mod read; // read.rt: a reader of the fields of each kind
 

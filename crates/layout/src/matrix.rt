@@ -1,18 +1,16 @@
 // Document 01, "Matrix record" and "Why a record was declined": the matrix record.
 use super::little_endian::word_at;
 ghost use mathlib.Core.Path.{_≡_};
-ghost use Prim.Native.Nat.{_+_, _*_, _<_};
+ghost use Prim.Native.Nat.{_+_, _^_, _<_};
 ghost use lib.ListN.{length};
-ghost use Rattle.layout.specs.Matrix.{matrixRefusal, coefficientAt, outside, signedWord};
+ghost use Rattle.layout.specs.Matrix.{matrixRefusal, coefficientAt, coefficientPlace, signedWord};
 
-// Whether m or n is outside 1 to 8.
-fn is_outside(x: u8) -> bool
-    ensures { λ r. ⌜ r ≡ outside x ⌝ }
+// The coefficients stand behind n, 2 bytes each.
+fn coefficient_place(index: usize) -> usize
+    requires { ⌜ coefficientPlace index < 2 ^ 64 ⌝ }
+    ensures { λ r. ⌜ r ≡ coefficientPlace index ⌝ }
 {
-    if x < 1 {
-        return true;
-    }
-    x > 8
+    6 + 2 * index
 }
 
 // The first of the refusals 1 to 5 that applies, 0 for none.
@@ -30,13 +28,10 @@ pub fn matrix_refusal(bytes: &[u8]) -> u8
     }
     let m = bytes[4];
     let n = bytes[5];
-    if is_outside(m) {
+    if limits::size_outside(m, n) {
         return 4;
     }
-    if is_outside(n) {
-        return 4;
-    }
-    if bytes.len() != 6 + 2 * (m as usize) * (n as usize) {
+    if bytes.len() != coefficient_place((m as usize) * (n as usize)) {
         return 5;
     }
     0
@@ -55,8 +50,8 @@ pub fn signed_word(x: u16) -> i16
 
 // The coefficient of an index, in the record's order.
 pub fn coefficient(bytes: &[u8], index: usize) -> i16
-    requires { ⌜ 7 + 2 * index < length (now bytes) ⌝ }
+    requires { ⌜ coefficientPlace index + 1 < length (now bytes) ⌝ }
     ensures { λ r. ⌜ r ≡ coefficientAt (now (bytes .entry)) index ⌝ }
 {
-    signed_word(word_at(bytes, 6 + 2 * index))
+    signed_word(word_at(bytes, coefficient_place(index)))
 }

@@ -5,12 +5,12 @@ use super::Output;
 use super::Totals;
 use super::little_endian::word_at;
 ghost use mathlib.Core.Path.{_≡_};
-ghost use Prim.Native.Nat.{_≤_};
+ghost use Prim.Native.Nat.{_-_, _≤_};
 ghost use lib.ListN.{length};
-ghost use Rattle.layout.specs.Records.{headOf, operationOf, outputOf, totalsOf};
+ghost use Rattle.layout.specs.Records.{headLength, headOf, operationLength, operationOf, outputLength, outputOf, totalsLength, totalsOf};
 
 pub fn read_head(payload: &[u8]) -> Head
-    requires { ⌜ 4 ≤ length (now payload) ⌝ }
+    requires { ⌜ headLength - 4 ≤ length (now payload) ⌝ }
     ensures { λ r. ⌜ r ≡ headOf (now (payload .entry)) ⌝ }
 {
     Head {
@@ -21,7 +21,7 @@ pub fn read_head(payload: &[u8]) -> Head
 }
 
 pub fn read_operation(payload: &[u8]) -> Operation
-    requires { ⌜ 8 ≤ length (now payload) ⌝ }
+    requires { ⌜ operationLength - 4 ≤ length (now payload) ⌝ }
     ensures { λ r. ⌜ r ≡ operationOf (now (payload .entry)) ⌝ }
 {
     Operation {
@@ -35,7 +35,7 @@ pub fn read_operation(payload: &[u8]) -> Operation
 }
 
 pub fn read_output(payload: &[u8]) -> Output
-    requires { ⌜ 5 ≤ length (now payload) ⌝ }
+    requires { ⌜ outputLength - 4 ≤ length (now payload) ⌝ }
     ensures { λ r. ⌜ r ≡ outputOf (now (payload .entry)) ⌝ }
 {
     Output {
@@ -47,7 +47,7 @@ pub fn read_output(payload: &[u8]) -> Output
 }
 
 pub fn read_totals(payload: &[u8]) -> Totals
-    requires { ⌜ 4 ≤ length (now payload) ⌝ }
+    requires { ⌜ totalsLength - 4 ≤ length (now payload) ⌝ }
     ensures { λ r. ⌜ r ≡ totalsOf (now (payload .entry)) ⌝ }
 {
     Totals {

@@ -4,20 +4,28 @@ use super::Head;
 use super::Operation;
 use super::Output;
 use super::Totals;
+use super::places::HEAD_KIND;
+use super::places::HEAD_LENGTH;
+use super::places::OPERATION_KIND;
+use super::places::OPERATION_LENGTH;
+use super::places::OUTPUT_KIND;
+use super::places::OUTPUT_LENGTH;
+use super::places::TOTALS_KIND;
+use super::places::TOTALS_LENGTH;
 ghost use mathlib.Core.Path.{_≡_};
 ghost use mathlib.Core.List.{_++_};
 ghost use Prim.Native.Nat.{_≤_};
 ghost use lib.ListN.{length, drop};
-ghost use Rattle.layout.specs.Records.{headBytes, operationBytes, outputBytes, totalsBytes};
+ghost use Rattle.layout.specs.Records.{headLength, headBytes, operationLength, operationBytes, outputLength, outputBytes, totalsLength, totalsBytes};
 
 pub fn write_head(buf: &mut [u8], head: Head)
-    requires { ⌜ 8 ≤ length (now buf) ⌝ }
-    ensures { λ _. ⌜ now (buf .exit) ≡ headBytes head ++ drop 8 (now (buf .entry)) ⌝ }
+    requires { ⌜ headLength ≤ length (now buf) ⌝ }
+    ensures { λ _. ⌜ now (buf .exit) ≡ headBytes head ++ drop headLength (now (buf .entry)) ⌝ }
 {
     let record = [
-        8,
+        HEAD_LENGTH as u8,
         0,
-        2,
+        HEAD_KIND as u8,
         0,
         head.m,
         head.n,
@@ -28,13 +36,13 @@ pub fn write_head(buf: &mut [u8], head: Head)
 }
 
 pub fn write_operation(buf: &mut [u8], operation: Operation)
-    requires { ⌜ 12 ≤ length (now buf) ⌝ }
-    ensures { λ _. ⌜ now (buf .exit) ≡ operationBytes operation ++ drop 12 (now (buf .entry)) ⌝ }
+    requires { ⌜ operationLength ≤ length (now buf) ⌝ }
+    ensures { λ _. ⌜ now (buf .exit) ≡ operationBytes operation ++ drop operationLength (now (buf .entry)) ⌝ }
 {
     let record = [
-        12,
+        OPERATION_LENGTH as u8,
         0,
-        3,
+        OPERATION_KIND as u8,
         0,
         operation.sign,
         (operation.a % 256) as u8,
@@ -49,13 +57,13 @@ pub fn write_operation(buf: &mut [u8], operation: Operation)
 }
 
 pub fn write_output(buf: &mut [u8], output: Output)
-    requires { ⌜ 9 ≤ length (now buf) ⌝ }
-    ensures { λ _. ⌜ now (buf .exit) ≡ outputBytes output ++ drop 9 (now (buf .entry)) ⌝ }
+    requires { ⌜ outputLength ≤ length (now buf) ⌝ }
+    ensures { λ _. ⌜ now (buf .exit) ≡ outputBytes output ++ drop outputLength (now (buf .entry)) ⌝ }
 {
     let record = [
-        9,
+        OUTPUT_LENGTH as u8,
         0,
-        4,
+        OUTPUT_KIND as u8,
         0,
         output.sign,
         (output.symbol % 256) as u8,
@@ -67,13 +75,13 @@ pub fn write_output(buf: &mut [u8], output: Output)
 }
 
 pub fn write_totals(buf: &mut [u8], totals: Totals)
-    requires { ⌜ 8 ≤ length (now buf) ⌝ }
-    ensures { λ _. ⌜ now (buf .exit) ≡ totalsBytes totals ++ drop 8 (now (buf .entry)) ⌝ }
+    requires { ⌜ totalsLength ≤ length (now buf) ⌝ }
+    ensures { λ _. ⌜ now (buf .exit) ≡ totalsBytes totals ++ drop totalsLength (now (buf .entry)) ⌝ }
 {
     let record = [
-        8,
+        TOTALS_LENGTH as u8,
         0,
-        5,
+        TOTALS_KIND as u8,
         0,
         (totals.operations % 256) as u8,
         (totals.operations / 256) as u8,

@@ -1,32 +1,30 @@
 -- `layout::matrix::matrix_refusal` meets its contract. Assumes nothing.
 use Prim.Native.Nat.{ℕ, _*_, _≤_}
 use mathlib.Core.Path.{_≡_, sym, _∙_}
-use mathlib.Core.Bool.{false, _||_}
+use mathlib.Core.Bool.{false}
 use mathlib.Core.List.{List}
 use native.Mathlib.Omega.{arith}
 use native.Mathlib.Nat.{mul-le-mul}
+use Rattle.limits.specs.Size.{sizeOutside}
 use Rattle.layout.proofs.MatrixRefusal.{too-short, other-length, other-kind, out-of-limits, other-size, none}
-use Rattle.layout.specs.Matrix.{rows, columns, outside}
+use Rattle.layout.specs.Matrix.{rows, columns}
 use borrow.Author.Needs.{needs}
 use Rattle.layout.proofs.matrix.matrix_refusal.Statement.{statement}
 use Rattle.layout.proofs.matrix.matrix_refusal.Tie as tie
 
--- the bytes, where m and n are both within 1 to 8
-bytes : tie.Else5 → List ℕ
-bytes c = c .before .before .before .before .before .before .before .before .before .before .before .before .args .bytes .now
+-- the bytes, where m and n are within the limits
+bytes : tie.Else4 → List ℕ
+bytes c = c .before .before .before .before .before .before .before .before .before .before .args .bytes .now
 
-in-limits : (c : tie.Else5) → (outside (rows (bytes c)) || outside (columns (bytes c))) ≡ false
+in-limits : (c : tie.Else4) → sizeOutside (rows (bytes c)) (columns (bytes c)) ≡ false
 unfolding bytes
-in-limits c =
-    let m = sym (c .before .before .before .is-outside .ensures) ∙ c .before .before .if4 .left in
-    let n = sym (c .before .is-outside2 .ensures) ∙ c .if5 .left in
-    simp (m, n)
+in-limits c = sym (c .before .size-outside .ensures) ∙ c .if4 .left
 
-small : (c : tie.Else5) → (2 * rows (bytes c) ≤ 510) × (columns (bytes c) ≤ 255)
+small : (c : tie.Else4) → (rows (bytes c) ≤ 255) × (columns (bytes c) ≤ 255)
 unfolding bytes
-small c = let given = c .before .before .before .before .shared-slice-known3 .given in (omega (arith, given 4), omega (arith, given 5))
+small c = let given = c .before .before .shared-slice-known3 .given in (omega (arith, given 4), omega (arith, given 5))
 
-in-bytes : (c : tie.Else5) → (2 * rows (bytes c) ≤ 510) × (columns (bytes c) ≤ 255) × (2 * rows (bytes c) * columns (bytes c) ≤ 130050)
+in-bytes : (c : tie.Else4) → (rows (bytes c) ≤ 255) × (columns (bytes c) ≤ 255) × (rows (bytes c) * columns (bytes c) ≤ 65025)
 in-bytes c = (small c .0, small c .1, mul-le-mul (small c .0) (small c .1))
 
 returns : tie.Need-returns
@@ -53,50 +51,35 @@ shared-slice-read-m c = search needs
 shared-slice-read-n : tie.Need-shared-slice-read-n
 shared-slice-read-n c = search needs
 
-is-outside-requires : tie.Need-is-outside-requires
-is-outside-requires c κs = search needs
+size-outside-requires : tie.Need-size-outside-requires
+size-outside-requires c κs = search needs
 
 returns-4 : tie.Need-returns-4
-returns-4 c =
-    let e = sym (c .before .is-outside .ensures) ∙ c .if4 .taken in
-    out-of-limits _ (omega arith) (omega arith) (omega arith) (simp e)
+returns-4 c = out-of-limits _ (omega arith) (omega arith) (omega arith) (sym (c .before .size-outside .ensures) ∙ c .if4 .taken)
 
-is-outside-requires-2 : tie.Need-is-outside-requires-2
-is-outside-requires-2 c κs = search needs
+cast-coefficient-place : tie.Need-cast-coefficient-place
+unfolding bytes
+cast-coefficient-place c = omega (arith, in-bytes c)
+
+cast-coefficient-place-2 : tie.Need-cast-coefficient-place-2
+unfolding bytes
+cast-coefficient-place-2 c = omega (arith, in-bytes c)
+
+mul-coefficient-place : tie.Need-mul-coefficient-place
+unfolding bytes
+mul-coefficient-place c = omega (arith, in-bytes c)
+
+coefficient-place-requires : tie.Need-coefficient-place-requires
+unfolding bytes
+coefficient-place-requires c κs = omega (arith, in-bytes c)
 
 returns-5 : tie.Need-returns-5
-returns-5 c =
-    let m = sym (c .before .before .before .is-outside .ensures) ∙ c .before .before .if4 .left in
-    let n = sym (c .before .is-outside2 .ensures) ∙ c .if5 .taken in
-    out-of-limits _ (omega arith) (omega arith) (omega arith) (simp (m, n))
-
-cast-if6 : tie.Need-cast-if6
 unfolding bytes
-cast-if6 c = omega (arith, in-bytes c)
-
-mul-if6 : tie.Need-mul-if6
-unfolding bytes
-mul-if6 c = omega (arith, in-bytes c)
-
-cast-if6-2 : tie.Need-cast-if6-2
-unfolding bytes
-cast-if6-2 c = omega (arith, in-bytes c)
-
-mul-if6-2 : tie.Need-mul-if6-2
-unfolding bytes
-mul-if6-2 c = omega (arith, in-bytes c)
-
-add-if6 : tie.Need-add-if6
-unfolding bytes
-add-if6 c = omega (arith, in-bytes c)
+returns-5 c = other-size _ (omega arith) (omega arith) (omega arith) (in-limits (c .before .before)) (λ e. c .if5 .taken (e ∙ sym (c .before .coefficient-place .ensures)))
 
 returns-6 : tie.Need-returns-6
 unfolding bytes
-returns-6 c = other-size _ (omega arith) (omega arith) (omega arith) (in-limits (c .before)) (c .if6 .taken)
-
-returns-7 : tie.Need-returns-7
-unfolding bytes
-returns-7 c = none _ (omega arith) (omega arith) (omega arith) (in-limits (c .before)) (c .if6 .left)
+returns-6 c = none _ (omega arith) (omega arith) (omega arith) (in-limits (c .before .before)) (c .if5 .left ∙ c .before .coefficient-place .ensures)
 
 pub matrix-refusal-spec : {M : Type 1} → statement M
 matrix-refusal-spec =
@@ -110,14 +93,11 @@ matrix-refusal-spec =
     returns-3
     shared-slice-read-m
     shared-slice-read-n
-    is-outside-requires
+    size-outside-requires
     returns-4
-    is-outside-requires-2
+    cast-coefficient-place
+    cast-coefficient-place-2
+    mul-coefficient-place
+    coefficient-place-requires
     returns-5
-    cast-if6
-    mul-if6
-    cast-if6-2
-    mul-if6-2
-    add-if6
-    returns-6
-    returns-7)
+    returns-6)

@@ -4,6 +4,9 @@ use Rattle.layout.specs.Records.{totalsPayload}
 use Rattle.layout.proofs.write.write_totals.Statement.{statement}
 use Rattle.layout.proofs.write.write_totals.Tie as tie
 
+cast-t4 : tie.Need-cast-t4
+cast-t4 c = search needs
+
 cast-t5 : tie.Need-cast-t5
 cast-t5 c = search needs
 
@@ -15,6 +18,9 @@ cast-t9 c = search needs
 
 cast-t11 : tie.Need-cast-t11
 cast-t11 c = search needs
+
+cast-t13 : tie.Need-cast-t13
+cast-t13 c = search needs
 
 slice-aggregate-copy : tie.Need-slice-aggregate-copy
 slice-aggregate-copy c = search needs
@@ -33,10 +39,12 @@ pub write-totals-spec : {M : Type 1} → statement M
 write-totals-spec =
     tie.close
     (tie.spec
+    cast-t4
     cast-t5
     cast-t7
     cast-t9
     cast-t11
+    cast-t13
     slice-aggregate-copy
     copy-requires
     same-length

@@ -8,7 +8,7 @@ use native.Mathlib.Omega.{arith}
 use native.Mathlib.Decide.{decLt}
 use lib.ListN.{length, getD, take, drop, length-append, List·getD-append}
 use lib.Seq.{take-append-le, take-all, getD-at, getD-append-seam, take-at, split-at, ext-getD}
-use Rattle.reading.specs.Tests.{firstRecords}
+use Rattle.layout.specs.Places.{firstRecords}
 
 pub last-or-earlier : (i k : ℕ) → i < suc k → (i < k) ⊎ (i ≡ k)
 last-or-earlier i k h = go (decLt i k)
