@@ -17,7 +17,7 @@ use Rattle.layout.specs.Records.{Netlist}
 use Rattle.width.specs.Machine.{outputForm}
 use Rattle.layout.proofs.MatrixRefusal.{AcceptedMatrix}
 use Rattle.layout.proofs.MatrixRows.{matrix-row, coefficient-there}
-use Rattle.width.specs.Table.{columnsFrom, outputRow}
+use Rattle.width.specs.Table.{eachColumnFrom, outputRow}
 use Rattle.reading.specs.declared.CheckAnswer.{CheckAnswer}
 use Rattle.reading.specs.declared.ReadAnswer.{ReadAnswer}
 use Rattle.reading.specs.Read.{Reading, refused, accepted, readNetlist, answerOf, readAnswer, headAt, operationAt, outputAt}
@@ -47,20 +47,20 @@ integers-differ (negsuc a) (negsuc b) h = ne-eqb a b (λ e. h (ap negsuc e))
 
 module _ (f : ℕ → ℤ) (m : List ℕ) (index n : ℕ) where
   abbrev columnsLeft : ℕ → Bool
-  columnsLeft j = sameRow (columnsFrom j (n - j) f) (coefficientsFrom m (index + j) (n - j))
+  columnsLeft j = sameRow (eachColumnFrom j (n - j) f) (coefficientsFrom m (index + j) (n - j))
 
-  pub columns-start : sameRow (columnsFrom 0 (n - 0) f) (coefficientsFrom m (index + 0) (n - 0)) ≡ sameRow (columnsFrom 0 n f) (coefficientsFrom m index n)
+  pub columns-start : sameRow (eachColumnFrom 0 (n - 0) f) (coefficientsFrom m (index + 0) (n - 0)) ≡ sameRow (eachColumnFrom 0 n f) (coefficientsFrom m index n)
   columns-start =
       let all : n - 0 ≡ n = omega arith in
       let here : index + 0 ≡ index = omega arith in
       rw (all, here) refl
 
   column-next : (j : ℕ) → j < n → columnsLeft j ≡ (sameInteger (f j) (coefficientAt m (index + j)) && columnsLeft (suc j))
-  unfolding sameRow columnsFrom coefficientsFrom
+  unfolding sameRow eachColumnFrom coefficientsFrom
   column-next j h =
       let less : n - j ≡ suc (n - suc j) = omega arith in
       let further : index + j + 1 ≡ index + suc j = omega arith in
-      rw less (ap (λ (i : ℕ). sameInteger (f j) (coefficientAt m (index + j)) && sameRow (columnsFrom (suc j) (n - suc j) f) (coefficientsFrom m i (n - suc j))) further)
+      rw less (ap (λ (i : ℕ). sameInteger (f j) (coefficientAt m (index + j)) && sameRow (eachColumnFrom (suc j) (n - suc j) f) (coefficientsFrom m i (n - suc j))) further)
 
   pub column-same : (j : ℕ) → j < n → f j ≡ coefficientAt m (index + j) → columnsLeft j ≡ columnsLeft (suc j)
   column-same j h e = column-next j h ∙ ap (λ t. t && columnsLeft (suc j)) (integers-same (f j) (coefficientAt m (index + j)) e)
@@ -69,7 +69,7 @@ module _ (f : ℕ → ℤ) (m : List ℕ) (index n : ℕ) where
   column-differs j h e = column-next j h ∙ ap (λ t. t && columnsLeft (suc j)) (integers-differ (f j) (coefficientAt m (index + j)) e)
 
   pub columns-end : (j : ℕ) → n ≤ j → columnsLeft j ≡ true
-  unfolding sameRow columnsFrom coefficientsFrom
+  unfolding sameRow eachColumnFrom coefficientsFrom
   columns-end j h = let none : n - j ≡ 0 = omega arith in rw none refl
 
 -- ---- the rows that are left

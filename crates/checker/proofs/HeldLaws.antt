@@ -12,7 +12,7 @@ use Rattle.layout.specs.declared.Operation.{Operation}
 use Rattle.layout.specs.declared.Output.{Output}
 use Rattle.width.specs.Machine.{entryForm, outputForm, operationDepth, depths, largest, depth}
 use Rattle.width.specs.Width.{width}
-use Rattle.width.specs.Table.{filled, Small, coefficientAt, row, outputRow, formAppended, formsStarted, HoldsForms, SmallForms, SmallRange}
+use Rattle.width.specs.Table.{filled, Small, tableCoefficient, row, outputRow, formAppended, formsStarted, HoldsForms, SmallForms, SmallRange}
 use Rattle.width.proofs.FormLaws.{entry-form-keeps}
 use Rattle.width.proofs.DepthLaws.{depths-at-most, largest-snoc}
 use Rattle.width.proofs.TableLaws.{length-filled, take-filled, started-holds, row-is, output-row-is, appended-holds, depth-appended}
@@ -97,7 +97,7 @@ module _ (b : List ℕ) (n k : ℕ) (forms : List ℤ) (H : FormsHeld b n k form
     output-row-width = ap (width 16) output-row-held
 
     -- none of the entry's coefficients wraps when it is shifted, as those of an operation with that operand twice
-    pub output-coefficient-small : (j : ℕ) → j < n → Small (coefficientAt forms (o .symbol) j) (o .shift)
+    pub output-coefficient-small : (j : ℕ) → j < n → Small (tableCoefficient forms (o .symbol) j) (o .shift)
     output-coefficient-small j h =
         forms-small 16 40 15 n before forms (H .coefficients) (record { sign = 0; a = o .symbol; sa = o .shift; b = o .symbol; sb = o .shift; width = 0 })
         (omega (arith, count, L .symbol)) (omega (arith, count, L .symbol)) (H .narrow (o .symbol) (L .symbol)) (H .narrow (o .symbol) (L .symbol)) (L .shift) (L .shift) (omega arith) .first j h

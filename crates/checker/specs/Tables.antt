@@ -11,7 +11,7 @@ use Rattle.layout.specs.declared.Output.{Output}
 use Rattle.layout.specs.Matrix.{rows, columns, matrix}
 use Rattle.width.specs.Machine.{entryAt, entryForm, depths}
 use Rattle.width.specs.Width.{Samples, width}
-use Rattle.width.specs.Table.{HoldsForms, Small, coefficientAt}
+use Rattle.width.specs.Table.{HoldsForms, Small, tableCoefficient}
 use Rattle.checker.specs.declared.read.Refusal.{Refusal}
 use Rattle.reading.specs.Read.{Reading, refused, accepted, sampleWidth, maxWidth, maxShift, headAt, headRefusal, operationAt, operationRefusal, outputAt, totalsRefusal, readOperations, readOutputs, readNetlist}
 use Rattle.reading.specs.declared.CheckAnswer.{CheckAnswer}
@@ -93,7 +93,7 @@ pub record SameSizes (matrixBytes : List ℕ) (h : Head) (m n operations : ℕ) 
 -- the coefficients of a matrix's row that begins at an index are there, and those of an output's entry are so small that none wraps
 pub record RowReady (matrixBytes : List ℕ) (index n : ℕ) (forms : List ℤ) (o : Output) : Type 0 where
   pub there : (j : ℕ) → j < n → 7 + 2 * (index + j) < length matrixBytes
-  pub small : (j : ℕ) → j < n → Small (coefficientAt forms (o .symbol) j) (o .shift)
+  pub small : (j : ℕ) → j < n → Small (tableCoefficient forms (o .symbol) j) (o .shift)
 
 -- 14: the matrix's rows against the outputs of the netlist in the bytes
 abbrev pub rowsMatched : List ℕ → List ℕ → CheckAnswer

@@ -13,7 +13,7 @@ use Rattle.layout.specs.declared.Operation.{Operation}
 use Rattle.layout.specs.declared.Output.{Output}
 use Rattle.width.specs.Machine.{entryAt, machine, unit, outputValue, entryForm, outputForm}
 use Rattle.width.specs.Width.{positives, negatives, width}
-use Rattle.width.specs.Table.{columns}
+use Rattle.width.specs.Table.{eachColumn}
 use Rattle.width.proofs.FormLaws.{entry-columns, output-columns, columns-at, length-columns}
 use Rattle.width.proofs.RangeLaws.{sums-of-sizes, width-of-sums}
 use Rattle.elimination.specs.Rows.{matrixRows}
@@ -45,10 +45,10 @@ narrow-form s positions c cs some few small =
     width-of-sums s (positions + s + c) cs (omega arith) (third (2 ^ (s - 1)) (2 ^ c) B T (2 ^ suc positions) (2 ^ top) sums (omega arith) powers (pow-pos top))
 
 -- a form by its columns
-narrow-columns : (s positions c n : ℕ) (f : ℕ → ℤ) → 1 ≤ s → n ≤ 2 ^ c → ((j : ℕ) → j < n → natAbs (f j) ≤ weightBound positions) → width s (columns n f) ≤ positions + s + c
+narrow-columns : (s positions c n : ℕ) (f : ℕ → ℤ) → 1 ≤ s → n ≤ 2 ^ c → ((j : ℕ) → j < n → natAbs (f j) ≤ weightBound positions) → width s (eachColumn n f) ≤ positions + s + c
 narrow-columns s positions c n f some few small =
-    let counted : length (columns n f) ≡ n = length-columns 0 n f in
-    narrow-form s positions c (columns n f) some (omega arith)
+    let counted : length (eachColumn n f) ≡ n = length-columns 0 n f in
+    narrow-form s positions c (eachColumn n f) some (omega arith)
     (λ j l.
     let inside : j < n = omega arith in
     let first : 0 + j ≡ j = omega arith in

@@ -12,10 +12,10 @@ use Rattle.integers.proofs.Expression.{at, nat, _⊗_, equal}
 use Rattle.term.specs.declared.Term.{Term}
 use Rattle.layout.specs.declared.Operation.{Operation}
 use Rattle.layout.specs.declared.Output.{Output}
-use Rattle.width.specs.Machine.{entryAt, shifted, joined, machine, signed, outputValue, times}
+use Rattle.width.specs.Machine.{entryAt, shifted, joined, machine, withSign, outputValue, times}
 use Rattle.width.proofs.MachineLaws.{Follows, machine-follows, machine-keeps}
 use Rattle.elimination.specs.declared.Divisor.{Divisor}
-use Rattle.elimination.specs.Rows.{Row, WellFormed, EachRow, signed as signedBy, termValue, rowSum, rowValue, matrixRows}
+use Rattle.elimination.specs.Rows.{Row, WellFormed, EachRow, signed, termValue, rowSum, rowValue, matrixRows}
 use Rattle.elimination.specs.Divisors.{divisorValue}
 use Rattle.elimination.specs.Elimination.{Eliminated}
 use Rattle.elimination.proofs.Order.{matrix-well-formed}
@@ -33,16 +33,16 @@ use Rattle.compilation.proofs.Operands.{operations-earlier}
 
 -- what an output gives for values v of the symbols
 abbrev pub outputOf : (ℕ → ℤ) → Output → ℤ
-outputOf v o = signed (o .sign) (shifted (v (o .symbol)) (o .shift))
+outputOf v o = withSign (o .sign) (shifted (v (o .symbol)) (o .shift))
 
 -- ---- signs and shifts, as the machine and as a row have them
 
-joined-is : (b : Bool) (x y : ℤ) (s : ℕ) → joined (signOf b) x (shifted y s) ≡ x +ℤ signedBy b (pos (2 ^ s) *ℤ y)
+joined-is : (b : Bool) (x y : ℤ) (s : ℕ) → joined (signOf b) x (shifted y s) ≡ x +ℤ signed b (pos (2 ^ s) *ℤ y)
 unfolding signOf
 joined-is false x y s = ap (λ z. x +ℤ z) (*ℤ-comm y (pos (2 ^ s)))
 joined-is true x y s = ap (λ z. x +ℤ negℤ z) (*ℤ-comm y (pos (2 ^ s)))
 
-signed-is : (b : Bool) (y : ℤ) (s : ℕ) → signed (signOf b) (shifted y s) ≡ signedBy b (pos (2 ^ s) *ℤ y)
+signed-is : (b : Bool) (y : ℤ) (s : ℕ) → withSign (signOf b) (shifted y s) ≡ signed b (pos (2 ^ s) *ℤ y)
 unfolding signOf
 signed-is false y s = *ℤ-comm y (pos (2 ^ s))
 signed-is true y s = ap negℤ (*ℤ-comm y (pos (2 ^ s)))
@@ -50,11 +50,11 @@ signed-is true y s = ap negℤ (*ℤ-comm y (pos (2 ^ s)))
 one-times : (z : ℤ) → pos 1 *ℤ z ≡ z
 one-times z = equal (nat 1 ⊗ at z) (at z) (omega arith)
 
-signed-plus : (b : Bool) (x y : ℤ) → signedBy b (x +ℤ y) ≡ signedBy b x +ℤ signedBy b y
+signed-plus : (b : Bool) (x y : ℤ) → signed b (x +ℤ y) ≡ signed b x +ℤ signed b y
 signed-plus false x y = refl
 signed-plus true x y = negℤ-+ℤ x y
 
-turned-back : (turned b : Bool) (z : ℤ) → signedBy turned (signedBy (xor turned b) z) ≡ signedBy b z
+turned-back : (turned b : Bool) (z : ℤ) → signed turned (signed (xor turned b) z) ≡ signed b z
 unfolding xor
 turned-back false false z = refl
 turned-back false true z = refl
@@ -82,7 +82,7 @@ module _ (v : ℕ → ℤ) where
   divisors-follow s [] h = tt
   divisors-follow s (d ∷ ds) h = (
     h .0 ∙ joined-is (d .minus) (shifted (v (d .a)) (d .ea)) (v (d .b)) (d .eb)
-        ∙ ap (λ z. z +ℤ signedBy (d .minus) (pos (2 ^ d .eb) *ℤ v (d .b))) (*ℤ-comm (v (d .a)) (pos (2 ^ d .ea))),
+        ∙ ap (λ z. z +ℤ signed (d .minus) (pos (2 ^ d .eb) *ℤ v (d .b))) (*ℤ-comm (v (d .a)) (pos (2 ^ d .ea))),
     divisors-follow (suc s) ds (h .1),
   )
 
@@ -93,10 +93,10 @@ module _ (v : ℕ → ℤ) where
       → termValue v (joinedTerm next t) ≡ termValue v t +ℤ termValue v u
   unfolding termValue
   join-value next t u e =
-      ap (signedBy (t .negative)) (one-times (v next) ∙ e
+      ap (signed (t .negative)) (one-times (v next) ∙ e
       ∙ joined-is (xor (t .negative) (u .negative)) (shifted (v (t .symbol)) (t .exponent)) (v (u .symbol)) (u .exponent))
-      ∙ signed-plus (t .negative) (shifted (v (t .symbol)) (t .exponent)) (signedBy (xor (t .negative) (u .negative)) (pos (2 ^ u .exponent) *ℤ v (u .symbol)))
-      ∙ ap₂ _+ℤ_ (ap (signedBy (t .negative)) (*ℤ-comm (v (t .symbol)) (pos (2 ^ t .exponent)))) (turned-back (t .negative) (u .negative) (pos (2 ^ u .exponent) *ℤ v (u .symbol)))
+      ∙ signed-plus (t .negative) (shifted (v (t .symbol)) (t .exponent)) (signed (xor (t .negative) (u .negative)) (pos (2 ^ u .exponent) *ℤ v (u .symbol)))
+      ∙ ap₂ _+ℤ_ (ap (signed (t .negative)) (*ℤ-comm (v (t .symbol)) (pos (2 ^ t .exponent)))) (turned-back (t .negative) (u .negative) (pos (2 ^ u .exponent) *ℤ v (u .symbol)))
 
   -- the output of a row's sum is the row's value
   pub summed-value : {next : ℕ} {r : Row} {os : List Operation} {o : Output} → Summed next r os o → Follows v next os → outputOf v o ≡ rowValue v r

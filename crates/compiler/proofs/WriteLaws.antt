@@ -16,7 +16,7 @@ use Rattle.layout.proofs.Written.{written-part, written-start, written-nothing,
 use Rattle.layout.proofs.Lengths.{length-head, length-operation, length-output, length-totals, length-records}
 use Rattle.width.specs.Machine.{entryForm, operationDepth, depths, depth}
 use Rattle.width.specs.Width.{width}
-use Rattle.width.specs.Table.{filled, coefficientAt, row, operationCoefficient, operationRow, formAppended, HoldsForms, SmallForms, SmallRange}
+use Rattle.width.specs.Table.{filled, tableCoefficient, row, operationCoefficient, operationRow, formAppended, HoldsForms, SmallForms, SmallRange}
 use Rattle.width.proofs.FormLaws.{columns-at, columns-same, length-columns, entry-form-keeps}
 use Rattle.width.proofs.TableLaws.{take-filled, sets-inside, operation-row-is, output-row-is, appended-holds, front-at, depth-appended}
 use Rattle.width.proofs.DepthLaws.{depth-snoc, depths-at-most}
@@ -31,7 +31,7 @@ use Rattle.compilation.proofs.Counts.{length-with-widths}
 pub appended-row : (table : List ℤ) (n : ℕ) (o : Operation) (symbol : ℕ) → n ≤ 8 → symbol < 512 → length table ≡ 4096
     → row (formAppended table n o symbol) n symbol ≡ operationRow table n o
 appended-row table n o symbol l h r =
-    columns-same 0 n (coefficientAt (formAppended table n o symbol) symbol) (operationCoefficient table o)
+    columns-same 0 n (tableCoefficient (formAppended table n o symbol) symbol) (operationCoefficient table o)
     (λ j k.
     let inside : j < n = omega arith in
     let first : 0 + j ≡ j = omega arith in

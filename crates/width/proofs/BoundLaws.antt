@@ -11,7 +11,7 @@ use Rattle.layout.specs.declared.Operation.{Operation}
 use Rattle.layout.specs.declared.Output.{Output}
 use Rattle.width.specs.Machine.{entryAt, machine, entryForm}
 use Rattle.width.specs.Width.{Within, Samples, width}
-use Rattle.width.specs.Table.{coefficientAt, row, outputRow, HoldsForms, Small, SmallForms, SmallRange}
+use Rattle.width.specs.Table.{tableCoefficient, row, outputRow, HoldsForms, Small, SmallForms, SmallRange}
 use Rattle.width.proofs.MachineLaws.{machine-keeps}
 use Rattle.width.proofs.FormLaws.{columns-at}
 use Rattle.width.proofs.WidthLaws.{within-wider, entry-width-is, width-from-one}
@@ -39,14 +39,14 @@ entry-small s n W k os symbol shift h l m xs x =
 
 module _ (s W k n : ℕ) (os : List Operation) (table : List ℤ) (H : HoldsForms n os table) where
   coefficient-small : (symbol shift j : ℕ) → symbol < n + length os → j < n → width s (entryForm n os symbol) ≤ W → shift ≤ k → W + k ≤ 62
-      → Small (coefficientAt table symbol j) shift
+      → Small (tableCoefficient table symbol j) shift
   coefficient-small symbol shift j a h b l m =
-      small W k (coefficientAt table symbol j) shift (omega (arith, width-from-one s (entryForm n os symbol))) m size l
+      small W k (tableCoefficient table symbol j) shift (omega (arith, width-from-one s (entryForm n os symbol))) m size l
     where
-      c : getD (row table n symbol) j (pos 0) ≡ coefficientAt table symbol j
-      c = columns-at 0 n (coefficientAt table symbol) j h ∙ ap (coefficientAt table symbol) (omega arith)
+      c : getD (row table n symbol) j (pos 0) ≡ tableCoefficient table symbol j
+      c = columns-at 0 n (tableCoefficient table symbol) j h ∙ ap (tableCoefficient table symbol) (omega arith)
 
-      size : natAbs (coefficientAt table symbol j) ≤ 2 ^ (W - 1)
+      size : natAbs (tableCoefficient table symbol j) ≤ 2 ^ (W - 1)
       size = rw (sym c) (width-coefficient s W (row table n symbol) (rw (row-is n os table H symbol a) b) j)
 
   -- what `append_form` asks
@@ -63,11 +63,11 @@ module _ (s W k n : ℕ) (os : List Operation) (table : List ℤ) (H : HoldsForm
       → SmallRange s (entryForm n (os ++ (o ∷ [])) (n + length os))
   appended-range-small two o ha hb wa wb la lb m =
       rw (sym (operation-row-is n os table H o ha hb))
-      (operation-range-small s W k n two m (coefficientAt table (o .a)) (coefficientAt table (o .b)) (o .sign) (o .sa) (o .sb)
+      (operation-range-small s W k n two m (tableCoefficient table (o .a)) (tableCoefficient table (o .b)) (o .sign) (o .sa) (o .sb)
       (rw (row-is n os table H (o .a) ha) wa) (rw (row-is n os table H (o .b) hb) wb) la lb)
 
   -- what `output_width` asks of an output's
   pub output-row-range-small : 2 ≤ s → (o : Output) → o .symbol < n + length os → width s (entryForm n os (o .symbol)) ≤ W → o .shift ≤ k → W + k ≤ 62
       → SmallRange s (outputRow table n o)
   output-row-range-small two o h w l m =
-      output-range-small s W k n two m (coefficientAt table (o .symbol)) (o .sign) (o .shift) (rw (row-is n os table H (o .symbol) h) w) l
+      output-range-small s W k n two m (tableCoefficient table (o .symbol)) (o .sign) (o .shift) (rw (row-is n os table H (o .symbol) h) w) l

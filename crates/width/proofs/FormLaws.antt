@@ -11,8 +11,8 @@ use lib.Seq.{getD-at}
 use Rattle.layout.specs.declared.Operation.{Operation}
 use Rattle.layout.specs.declared.Output.{Output}
 use Rattle.integers.proofs.Expression.{at, nat, minus, _⊕_, _⊗_, equal}
-use Rattle.width.specs.Machine.{entryAt, shifted, joined, operationValue, machine, signed, outputValue, times, unit, unitsFrom, units, entryForm, outputForm}
-use Rattle.width.specs.Table.{columnsFrom, columns}
+use Rattle.width.specs.Machine.{entryAt, shifted, joined, operationValue, machine, withSign, outputValue, times, unit, unitsFrom, units, entryForm, outputForm}
+use Rattle.width.specs.Table.{eachColumnFrom, eachColumn}
 use Rattle.width.proofs.MachineLaws.{machine-keeps-after}
 
 -- ---- unit vectors
@@ -94,7 +94,7 @@ linear-joined : (n : ℕ) (f g : List ℤ → ℤ) (sign : ℕ) → Linear n f �
 linear-joined n f g zero p q = linear-plus n f g p q
 linear-joined n f g (suc sign) p q = linear-plus n f (λ xs. negℤ (g xs)) p (linear-neg n g q)
 
-linear-signed : (n : ℕ) (f : List ℤ → ℤ) (sign : ℕ) → Linear n f → Linear n (λ xs. signed sign (f xs))
+linear-signed : (n : ℕ) (f : List ℤ → ℤ) (sign : ℕ) → Linear n f → Linear n (λ xs. withSign sign (f xs))
 linear-signed n f zero p = p
 linear-signed n f (suc zero) p = linear-neg n f p
 linear-signed n f (suc (suc sign)) p = linear-zero n
@@ -189,32 +189,32 @@ output-times n os o xs h = linear-output n os o .is xs h
 
 -- ---- forms by columns
 
-map-columns : (f : List ℤ → ℤ) (n j k : ℕ) → map f (unitsFrom n j k) ≡ columnsFrom j k (λ i. f (unit n i))
-unfolding unitsFrom columnsFrom
+map-columns : (f : List ℤ → ℤ) (n j k : ℕ) → map f (unitsFrom n j k) ≡ eachColumnFrom j k (λ i. f (unit n i))
+unfolding unitsFrom eachColumnFrom
 map-columns f n j zero = refl
 map-columns f n j (suc k) = ap (λ r. f (unit n j) ∷ r) (map-columns f n (suc j) k)
 
-pub entry-columns : (n : ℕ) (os : List Operation) (symbol : ℕ) → entryForm n os symbol ≡ columns n (λ j. entryAt (machine (unit n j) os) symbol)
+pub entry-columns : (n : ℕ) (os : List Operation) (symbol : ℕ) → entryForm n os symbol ≡ eachColumn n (λ j. entryAt (machine (unit n j) os) symbol)
 unfolding entryForm units
 entry-columns n os symbol = map-columns (λ xs. entryAt (machine xs os) symbol) n 0 n
 
-pub output-columns : (n : ℕ) (os : List Operation) (o : Output) → outputForm n os o ≡ columns n (λ j. outputValue (machine (unit n j) os) o)
+pub output-columns : (n : ℕ) (os : List Operation) (o : Output) → outputForm n os o ≡ eachColumn n (λ j. outputValue (machine (unit n j) os) o)
 unfolding outputForm units
 output-columns n os o = map-columns (λ xs. outputValue (machine xs os) o) n 0 n
 
-pub length-columns : (j k : ℕ) (f : ℕ → ℤ) → length (columnsFrom j k f) ≡ k
-unfolding columnsFrom
+pub length-columns : (j k : ℕ) (f : ℕ → ℤ) → length (eachColumnFrom j k f) ≡ k
+unfolding eachColumnFrom
 length-columns j zero f = refl
 length-columns j (suc k) f = ap suc (length-columns (suc j) k f)
 
-pub columns-at : (j k : ℕ) (f : ℕ → ℤ) (i : ℕ) → i < k → getD (columnsFrom j k f) i (pos 0) ≡ f (j + i)
-unfolding columnsFrom
+pub columns-at : (j k : ℕ) (f : ℕ → ℤ) (i : ℕ) → i < k → getD (eachColumnFrom j k f) i (pos 0) ≡ f (j + i)
+unfolding eachColumnFrom
 columns-at j zero f i h = absurd (omega arith)
 columns-at j (suc k) f zero h = ap f (omega arith)
 columns-at j (suc k) f (suc i) h = columns-at (suc j) k f i (omega arith) ∙ ap f (omega arith)
 
-pub columns-same : (j k : ℕ) (f g : ℕ → ℤ) → ((i : ℕ) → i < j + k → f i ≡ g i) → columnsFrom j k f ≡ columnsFrom j k g
-unfolding columnsFrom
+pub columns-same : (j k : ℕ) (f g : ℕ → ℤ) → ((i : ℕ) → i < j + k → f i ≡ g i) → eachColumnFrom j k f ≡ eachColumnFrom j k g
+unfolding eachColumnFrom
 columns-same j zero f g e = refl
 columns-same j (suc k) f g e = ap₂ _∷_ (e j (omega arith)) (columns-same (suc j) k f g (λ i h. e i (omega arith)))
 

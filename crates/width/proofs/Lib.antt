@@ -10,3 +10,4 @@ pub mod OutputLaws
 pub mod TableLaws
 pub mod BoundLaws
 pub mod Marked
+pub mod NetlistLaws

@@ -4,6 +4,7 @@ use mathlib.Core.Path.{_≡_, refl}
 use mathlib.Core.List.{[], _∷_}
 use lib.IntN.{pos, negsuc}
 use lib.ListN.{replicate}
+use Rattle.limits.specs.Limits.{sampleWidth}
 use Rattle.width.specs.Machine.{entryForm, outputForm}
 use Rattle.width.specs.Width.{width}
 use Rattle.width.specs.Marked.{MarkedWidths, sumOfTwo, negatedSample, chainOfEight, negatedChain}
@@ -23,15 +24,15 @@ unfolding outputForm
 eight-form = refl
 
 -- the widths
-sum-width : width 16 (pos 1 ∷ pos 1 ∷ []) ≡ 17
+sum-width : width sampleWidth (pos 1 ∷ pos 1 ∷ []) ≡ 17
 unfolding width
 sum-width = refl
 
-negated-width : width 16 (negsuc 0 ∷ []) ≡ 17
+negated-width : width sampleWidth (negsuc 0 ∷ []) ≡ 17
 unfolding width
 negated-width = refl
 
-eight-width : width 16 (replicate 8 (negsuc 32767)) ≡ 35
+eight-width : width sampleWidth (replicate 8 (negsuc 32767)) ≡ 35
 unfolding width
 eight-width = refl
 
@@ -40,7 +41,7 @@ marked-widths = record {
   sum = sum-width;
   negated = negated-width;
   eight = eight-width;
-  sum-is = rw (sum-form, sum-width) at (entry-width-is 16 2 sumOfTwo 2);
-  negated-is = rw (negated-form, negated-width) at (output-width-is 16 1 [] negatedSample);
-  eight-is = rw (eight-form, eight-width) at (output-width-is 16 8 chainOfEight negatedChain);
+  sum-is = rw (sum-form, sum-width) at (entry-width-is sampleWidth 2 sumOfTwo 2);
+  negated-is = rw (negated-form, negated-width) at (output-width-is sampleWidth 1 [] negatedSample);
+  eight-is = rw (eight-form, eight-width) at (output-width-is sampleWidth 8 chainOfEight negatedChain);
 }

@@ -7,9 +7,9 @@ use native.Mathlib.Omega.{arith}
 use lib.IntN.{ℤ}
 use Rattle.layout.specs.declared.Operation.{Operation}
 use Rattle.layout.specs.declared.Output.{Output}
-use Rattle.width.specs.Machine.{entryAt, shifted, signed, machine, unit, outputForm}
+use Rattle.width.specs.Machine.{entryAt, shifted, withSign, machine, unit, outputForm}
 use Rattle.width.specs.Width.{positives, negatives, highestOf, lowestOf, bitsFrom, bits, widthOf, width}
-use Rattle.width.specs.Table.{columns, SmallRange}
+use Rattle.width.specs.Table.{eachColumn, SmallRange}
 use Rattle.width.proofs.FormLaws.{output-columns}
 use Rattle.width.proofs.RangeLaws.{positives-shifted, negatives-shifted, positives-negated, negatives-negated, positives-none, negatives-none}
 
@@ -20,21 +20,21 @@ width-zero s = let e : max (highestOf s 0 0) (pred (lowestOf s 0 0)) ≡ 0 = ome
 module _ (f : ℕ → ℤ) (n s shift : ℕ) where
   -- the output's coefficients
   abbrev turned : ℕ → ℕ → ℤ
-  turned sign j = signed sign (shifted (f j) shift)
+  turned sign j = withSign sign (shifted (f j) shift)
 
   -- the entry's sums, shifted
   abbrev above : ℕ
-  above = positives (columns n f) * 2 ^ shift
+  above = positives (eachColumn n f) * 2 ^ shift
 
   abbrev below : ℕ
-  below = negatives (columns n f) * 2 ^ shift
+  below = negatives (eachColumn n f) * 2 ^ shift
 
-  pub plus-width : (sign : ℕ) → sign ≡ 0 → widthOf s above below ≡ width s (columns n (turned sign))
+  pub plus-width : (sign : ℕ) → sign ≡ 0 → widthOf s above below ≡ width s (eachColumn n (turned sign))
   unfolding width
   plus-width zero e = ap₂ (widthOf s) (sym (positives-shifted f shift 0 n)) (sym (negatives-shifted f shift 0 n))
   plus-width (suc sign) e = absurd (omega arith)
 
-  pub minus-width : (sign : ℕ) → (sign ≡ 0 → ⊥) → sign ≤ 1 → widthOf s below above ≡ width s (columns n (turned sign))
+  pub minus-width : (sign : ℕ) → (sign ≡ 0 → ⊥) → sign ≤ 1 → widthOf s below above ≡ width s (eachColumn n (turned sign))
   unfolding width
   minus-width zero h l = absurd (h refl)
   minus-width (suc zero) h l = ap₂ (widthOf s)
@@ -42,17 +42,17 @@ module _ (f : ℕ → ℤ) (n s shift : ℕ) where
       (sym (negatives-negated (λ i. shifted (f i) shift) 0 n ∙ positives-shifted f shift 0 n))
   minus-width (suc (suc sign)) h l = absurd (omega arith)
 
-  pub zero-width : (sign : ℕ) → 1 < sign → 1 ≡ width s (columns n (turned sign))
+  pub zero-width : (sign : ℕ) → 1 < sign → 1 ≡ width s (eachColumn n (turned sign))
   unfolding width
   zero-width zero h = absurd (omega arith)
   zero-width (suc zero) h = absurd (omega arith)
   zero-width (suc (suc sign)) h = sym (rw (positives-none 0 n, negatives-none 0 n) (width-zero s))
 
   -- the sums of the output's coefficients are the entry's, shifted, in either order
-  pub turned-spread : (sign : ℕ) → sign ≤ 1 → SmallRange s (columns n (turned sign)) → 2 ^ (s - 1) * (above + below) < 2 ^ 62
+  pub turned-spread : (sign : ℕ) → sign ≤ 1 → SmallRange s (eachColumn n (turned sign)) → 2 ^ (s - 1) * (above + below) < 2 ^ 62
   turned-spread zero l h = rw (sym (positives-shifted f shift 0 n), sym (negatives-shifted f shift 0 n)) (h .spread)
   turned-spread (suc zero) l h =
-      let e : above + below ≡ positives (columns n (turned 1)) + negatives (columns n (turned 1)) = omega (
+      let e : above + below ≡ positives (eachColumn n (turned 1)) + negatives (eachColumn n (turned 1)) = omega (
         arith,
         positives-negated (λ i. shifted (f i) shift) 0 n,
         negatives-shifted f shift 0 n,

@@ -10,9 +10,9 @@ use lib.IntN.{ℤ, pos, negsuc, negℤ, natAbs}
 use lib.ListN.{length, getD}
 use lib.Pow.{pow-mono, pow-pos, pow-add}
 use Rattle.integers.proofs.Size.{abs-+, abs-sub, abs-shift}
-use Rattle.width.specs.Machine.{shifted, joined, signed}
+use Rattle.width.specs.Machine.{shifted, joined, withSign}
 use Rattle.width.specs.Width.{Within, positivePart, negativePart, positives, negatives, width}
-use Rattle.width.specs.Table.{columnsFrom, columns, Small, SmallRange}
+use Rattle.width.specs.Table.{eachColumnFrom, eachColumn, Small, SmallRange}
 use Rattle.width.proofs.WidthLaws.{range-of-width, width-of-range, width-from-one, within-size}
 
 -- ---- coefficients
@@ -119,33 +119,33 @@ negative-shifted (pos c) s = omega arith
 negative-shifted (negsuc c) s = negative-neg (pos (suc c * 2 ^ s))
 
 module _ (f : ℕ → ℤ) where
-  pub positives-shifted : (s j k : ℕ) → positives (columnsFrom j k (λ i. shifted (f i) s)) ≡ positives (columnsFrom j k f) * 2 ^ s
-  unfolding positives columnsFrom
+  pub positives-shifted : (s j k : ℕ) → positives (eachColumnFrom j k (λ i. shifted (f i) s)) ≡ positives (eachColumnFrom j k f) * 2 ^ s
+  unfolding positives eachColumnFrom
   positives-shifted s j zero = omega arith
   positives-shifted s j (suc k) = omega (arith, positive-shifted (f j) s, positives-shifted s (suc j) k)
 
-  pub negatives-shifted : (s j k : ℕ) → negatives (columnsFrom j k (λ i. shifted (f i) s)) ≡ negatives (columnsFrom j k f) * 2 ^ s
-  unfolding negatives columnsFrom
+  pub negatives-shifted : (s j k : ℕ) → negatives (eachColumnFrom j k (λ i. shifted (f i) s)) ≡ negatives (eachColumnFrom j k f) * 2 ^ s
+  unfolding negatives eachColumnFrom
   negatives-shifted s j zero = omega arith
   negatives-shifted s j (suc k) = omega (arith, negative-shifted (f j) s, negatives-shifted s (suc j) k)
 
-  pub positives-negated : (j k : ℕ) → positives (columnsFrom j k (λ i. negℤ (f i))) ≡ negatives (columnsFrom j k f)
-  unfolding positives negatives columnsFrom
+  pub positives-negated : (j k : ℕ) → positives (eachColumnFrom j k (λ i. negℤ (f i))) ≡ negatives (eachColumnFrom j k f)
+  unfolding positives negatives eachColumnFrom
   positives-negated j zero = refl
   positives-negated j (suc k) = omega (arith, positive-neg (f j), positives-negated (suc j) k)
 
-  pub negatives-negated : (j k : ℕ) → negatives (columnsFrom j k (λ i. negℤ (f i))) ≡ positives (columnsFrom j k f)
-  unfolding positives negatives columnsFrom
+  pub negatives-negated : (j k : ℕ) → negatives (eachColumnFrom j k (λ i. negℤ (f i))) ≡ positives (eachColumnFrom j k f)
+  unfolding positives negatives eachColumnFrom
   negatives-negated j zero = refl
   negatives-negated j (suc k) = omega (arith, negative-neg (f j), negatives-negated (suc j) k)
 
-pub positives-none : (j k : ℕ) → positives (columnsFrom j k (λ i. pos 0)) ≡ 0
-unfolding positives columnsFrom
+pub positives-none : (j k : ℕ) → positives (eachColumnFrom j k (λ i. pos 0)) ≡ 0
+unfolding positives eachColumnFrom
 positives-none j zero = refl
 positives-none j (suc k) = omega (arith, positives-none (suc j) k)
 
-pub negatives-none : (j k : ℕ) → negatives (columnsFrom j k (λ i. pos 0)) ≡ 0
-unfolding negatives columnsFrom
+pub negatives-none : (j k : ℕ) → negatives (eachColumnFrom j k (λ i. pos 0)) ≡ 0
+unfolding negatives eachColumnFrom
 negatives-none j zero = refl
 negatives-none j (suc k) = omega (arith, negatives-none (suc j) k)
 
@@ -157,22 +157,22 @@ joined-size : (sign : ℕ) (x y : ℤ) → natAbs (joined sign x y) ≤ natAbs x
 joined-size zero x y = abs-+ x y
 joined-size (suc sign) x y = abs-sub x y
 
-signed-size : (sign : ℕ) (x : ℤ) → natAbs (signed sign x) ≤ natAbs x
+signed-size : (sign : ℕ) (x : ℤ) → natAbs (withSign sign x) ≤ natAbs x
 signed-size zero x = omega arith
 signed-size (suc zero) x = omega (arith, parts-size x, parts-size (negℤ x), positive-neg x, negative-neg x)
 signed-size (suc (suc sign)) x = omega arith
 
-total-joined : (sign : ℕ) (f g : ℕ → ℤ) (j k : ℕ) → total (columnsFrom j k (λ i. joined sign (f i) (g i))) ≤ total (columnsFrom j k f) + total (columnsFrom j k g)
-unfolding positives negatives columnsFrom
+total-joined : (sign : ℕ) (f g : ℕ → ℤ) (j k : ℕ) → total (eachColumnFrom j k (λ i. joined sign (f i) (g i))) ≤ total (eachColumnFrom j k f) + total (eachColumnFrom j k g)
+unfolding positives negatives eachColumnFrom
 total-joined sign f g j zero = omega arith
 total-joined sign f g j (suc k) =
     omega (arith, total-joined sign f g (suc j) k, joined-size sign (f j) (g j), parts-size (f j), parts-size (g j), parts-size (joined sign (f j) (g j)))
 
-total-signed : (sign : ℕ) (f : ℕ → ℤ) (j k : ℕ) → total (columnsFrom j k (λ i. signed sign (f i))) ≤ total (columnsFrom j k f)
-unfolding positives negatives columnsFrom
+total-signed : (sign : ℕ) (f : ℕ → ℤ) (j k : ℕ) → total (eachColumnFrom j k (λ i. withSign sign (f i))) ≤ total (eachColumnFrom j k f)
+unfolding positives negatives eachColumnFrom
 total-signed sign f j zero = omega arith
 total-signed sign f j (suc k) =
-    omega (arith, total-signed sign f (suc j) k, signed-size sign (f j), parts-size (f j), parts-size (signed sign (f j)))
+    omega (arith, total-signed sign f (suc j) k, signed-size sign (f j), parts-size (f j), parts-size (withSign sign (f j)))
 
 -- ---- nothing wraps: of entries whose widths are at most W, shifted by at most k, an operation's form and an output's are moderate
 
@@ -183,13 +183,13 @@ spread-shifted W k P t s h l =
 
 module _ (s W k n : ℕ) (two : 2 ≤ s) where
   -- the spread of a shifted form
-  shifted-spread : (f : ℕ → ℤ) (sa : ℕ) → width s (columns n f) ≤ W → sa ≤ k → 2 ^ (s - 1) * total (columns n (λ i. shifted (f i) sa)) < 2 ^ (W + k)
+  shifted-spread : (f : ℕ → ℤ) (sa : ℕ) → width s (eachColumn n f) ≤ W → sa ≤ k → 2 ^ (s - 1) * total (eachColumn n (λ i. shifted (f i) sa)) < 2 ^ (W + k)
   shifted-spread f sa h l =
-      let e : total (columns n (λ i. shifted (f i) sa)) ≡ total (columns n f) * 2 ^ sa = omega (arith, positives-shifted f sa 0 n, negatives-shifted f sa 0 n) in
-      rw e (spread-shifted W k (2 ^ (s - 1)) (total (columns n f)) sa (width-spread s W (columns n f) h two) l)
+      let e : total (eachColumn n (λ i. shifted (f i) sa)) ≡ total (eachColumn n f) * 2 ^ sa = omega (arith, positives-shifted f sa 0 n, negatives-shifted f sa 0 n) in
+      rw e (spread-shifted W k (2 ^ (s - 1)) (total (eachColumn n f)) sa (width-spread s W (eachColumn n f) h two) l)
 
-  pub operation-range-small : W + k ≤ 61 → (f g : ℕ → ℤ) (sign sa sb : ℕ) → width s (columns n f) ≤ W → width s (columns n g) ≤ W → sa ≤ k → sb ≤ k
-      → SmallRange s (columns n (λ i. joined sign (shifted (f i) sa) (shifted (g i) sb)))
+  pub operation-range-small : W + k ≤ 61 → (f g : ℕ → ℤ) (sign sa sb : ℕ) → width s (eachColumn n f) ≤ W → width s (eachColumn n g) ≤ W → sa ≤ k → sb ≤ k
+      → SmallRange s (eachColumn n (λ i. joined sign (shifted (f i) sa) (shifted (g i) sb)))
   operation-range-small m f g sign sa sb hf hg la lb = record {
     spread = omega (
       arith,
@@ -200,8 +200,8 @@ module _ (s W k n : ℕ) (two : 2 ≤ s) where
     );
   }
 
-  pub output-range-small : W + k ≤ 62 → (f : ℕ → ℤ) (sign shift : ℕ) → width s (columns n f) ≤ W → shift ≤ k
-      → SmallRange s (columns n (λ i. signed sign (shifted (f i) shift)))
+  pub output-range-small : W + k ≤ 62 → (f : ℕ → ℤ) (sign shift : ℕ) → width s (eachColumn n f) ≤ W → shift ≤ k
+      → SmallRange s (eachColumn n (λ i. withSign sign (shifted (f i) shift)))
   output-range-small m f sign shift h l = record {
     spread = omega (
       arith,

@@ -9,7 +9,7 @@ use mir.Syntax.{w64}
 use mir.Val.{SFits, toZ, ofZ}
 use Rattle.integers.proofs.Size.{abs-+, abs-sub, abs-neg, abs-fits}
 use Rattle.integers.proofs.Held.{Held, held, held-is, is}
-use Rattle.width.specs.Machine.{shifted, joined, signed}
+use Rattle.width.specs.Machine.{shifted, joined, withSign}
 use Rattle.width.specs.Table.{Small}
 
 module _ {z : ℤ} {s : ℕ} (f : SFits w64 z) (h : Small z s) where
@@ -35,7 +35,7 @@ pub joined-minus : (sign : ℕ) (x y : ℤ) → (sign ≡ 0 → ⊥) → x -ℤ 
 joined-minus zero x y h = absurd (h refl)
 joined-minus (suc sign) x y h = refl
 
-pub signed-none : (sign : ℕ) (x : ℤ) → (sign ≡ 0 → ⊥) → (sign ≡ 1 → ⊥) → pos 0 ≡ signed sign x
+pub signed-none : (sign : ℕ) (x : ℤ) → (sign ≡ 0 → ⊥) → (sign ≡ 1 → ⊥) → pos 0 ≡ withSign sign x
 signed-none zero x h k = absurd (h refl)
 signed-none (suc zero) x h k = absurd (k refl)
 signed-none (suc (suc sign)) x h k = refl

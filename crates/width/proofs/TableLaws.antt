@@ -9,10 +9,11 @@ use native.Mathlib.Decide.{decLt, ℕ-discrete}
 use lib.IntN.{ℤ, pos}
 use lib.ListN.{length, getD, set, take, drop, replicate, length-set, length-append, length-replicate}
 use lib.Seq.{sets, length-sets, drop-cons, getD-set-same, getD-set-other, getD-take, take-suc-set}
+use Rattle.limits.specs.Limits.{maxColumns, symbols}
 use Rattle.layout.specs.declared.Operation.{Operation}
 use Rattle.layout.specs.declared.Output.{Output}
 use Rattle.width.specs.Machine.{entryAt, operationValue, machine, operationDepth, depths, outputValue, unit, entryForm, outputForm}
-use Rattle.width.specs.Table.{filled, coefficientAt, row, operationCoefficient, operationRow, outputRow, formAppended, unitRowsFrom, formsStarted, HoldsForms, valueAppended}
+use Rattle.width.specs.Table.{formsLength, filled, tableCoefficient, row, operationCoefficient, operationRow, outputRow, formAppended, unitRowsFrom, formsStarted, HoldsForms, valueAppended}
 use Rattle.width.proofs.MachineLaws.{machine-snoc, machine-keeps-after, machine-last, operation-same}
 use Rattle.width.proofs.FormLaws.{length-unit, unit-other, entry-columns, output-columns, length-columns, columns-at, columns-same}
 use Rattle.width.proofs.DepthLaws.{depths-snoc}
@@ -69,29 +70,29 @@ module _ {A : Type 0} (d : A) where
 pub length-samples : (n i k : ℕ) (table : List ℤ) → length (unitRowsFrom n i k table) ≡ length table
 unfolding unitRowsFrom
 length-samples n i zero table = refl
-length-samples n i (suc k) table = length-samples n (suc i) k (sets table (i * 8) (unit n i)) ∙ length-sets table (i * 8) (unit n i)
+length-samples n i (suc k) table = length-samples n (suc i) k (sets table (i * maxColumns) (unit n i)) ∙ length-sets table (i * maxColumns) (unit n i)
 
-samples-keep : (n i k : ℕ) (table : List ℤ) (place : ℕ) → place < i * 8 → getD (unitRowsFrom n i k table) place (pos 0) ≡ getD table place (pos 0)
+samples-keep : (n i k : ℕ) (table : List ℤ) (place : ℕ) → place < i * maxColumns → getD (unitRowsFrom n i k table) place (pos 0) ≡ getD table place (pos 0)
 unfolding unitRowsFrom
 samples-keep n i zero table place h = refl
 samples-keep n i (suc k) table place h =
-    samples-keep n (suc i) k (sets table (i * 8) (unit n i)) place (omega arith) ∙ sets-below (pos 0) (unit n i) table (i * 8) place h
+    samples-keep n (suc i) k (sets table (i * maxColumns) (unit n i)) place (omega arith) ∙ sets-below (pos 0) (unit n i) table (i * maxColumns) place h
 
-samples-hold : (n i k : ℕ) (table : List ℤ) (symbol j : ℕ) → n ≤ 8 → (i + k) * 8 ≤ length table → i ≤ symbol → symbol < i + k → j < n
-    → coefficientAt (unitRowsFrom n i k table) symbol j ≡ getD (unit n symbol) j (pos 0)
+samples-hold : (n i k : ℕ) (table : List ℤ) (symbol j : ℕ) → n ≤ maxColumns → (i + k) * maxColumns ≤ length table → i ≤ symbol → symbol < i + k → j < n
+    → tableCoefficient (unitRowsFrom n i k table) symbol j ≡ getD (unit n symbol) j (pos 0)
 unfolding unitRowsFrom
 samples-hold n i zero table symbol j l r a b h = absurd (omega arith)
 samples-hold n i (suc k) table symbol j l r a b h =
-    go (decLt i symbol) (λ a'. samples-hold n (suc i) k (sets table (i * 8) (unit n i)) symbol j l (omega (arith, length-sets table (i * 8) (unit n i))) a' (omega arith) h)
+    go (decLt i symbol) (λ a'. samples-hold n (suc i) k (sets table (i * maxColumns) (unit n i)) symbol j l (omega (arith, length-sets table (i * maxColumns) (unit n i))) a' (omega arith) h)
   where
-    here : i ≡ symbol → coefficientAt (unitRowsFrom n (suc i) k (sets table (i * 8) (unit n i))) symbol j ≡ getD (unit n symbol) j (pos 0)
+    here : i ≡ symbol → tableCoefficient (unitRowsFrom n (suc i) k (sets table (i * maxColumns) (unit n i))) symbol j ≡ getD (unit n symbol) j (pos 0)
     here e = rw (← e) (
-        samples-keep n (suc i) k (sets table (i * 8) (unit n i)) (i * 8 + j) (omega arith)
-        ∙ sets-inside (pos 0) (unit n i) table (i * 8) j (omega (arith, length-unit n i)) (omega (arith, length-unit n i))
+        samples-keep n (suc i) k (sets table (i * maxColumns) (unit n i)) (i * maxColumns + j) (omega arith)
+        ∙ sets-inside (pos 0) (unit n i) table (i * maxColumns) j (omega (arith, length-unit n i)) (omega (arith, length-unit n i))
         )
 
-    go : Dec (i < symbol) → (suc i ≤ symbol → coefficientAt (unitRowsFrom n (suc i) k (sets table (i * 8) (unit n i))) symbol j ≡ getD (unit n symbol) j (pos 0))
-        → coefficientAt (unitRowsFrom n (suc i) k (sets table (i * 8) (unit n i))) symbol j ≡ getD (unit n symbol) j (pos 0)
+    go : Dec (i < symbol) → (suc i ≤ symbol → tableCoefficient (unitRowsFrom n (suc i) k (sets table (i * maxColumns) (unit n i))) symbol j ≡ getD (unit n symbol) j (pos 0))
+        → tableCoefficient (unitRowsFrom n (suc i) k (sets table (i * maxColumns) (unit n i))) symbol j ≡ getD (unit n symbol) j (pos 0)
     go (yes m) later = later m
     go (no m) later = here (omega arith)
 
@@ -104,7 +105,7 @@ unit-turned n i j h k = go (ℕ-discrete i j)
     go (no e) = unit-other n i j e ∙ sym (unit-other n j i (λ d. e (sym d)))
 
 -- at the start the table holds the forms of the samples
-pub started-holds : (n : ℕ) (table : List ℤ) → n ≤ 8 → length table ≡ 4096 → HoldsForms n [] (formsStarted table n)
+pub started-holds : (n : ℕ) (table : List ℤ) → n ≤ maxColumns → length table ≡ formsLength → HoldsForms n [] (formsStarted table n)
 unfolding machine
 started-holds n table l r = record {
   room = length-samples n 0 n table ∙ r;
@@ -120,7 +121,7 @@ module _ (n : ℕ) (os : List Operation) (table : List ℤ) (H : HoldsForms n os
   -- a symbol's row is the form of its entry, and an output's that of the output
   pub row-is : (symbol : ℕ) → symbol < n + length os → row table n symbol ≡ entryForm n os symbol
   row-is symbol h =
-      columns-same 0 n (coefficientAt table symbol) (λ j. entryAt (machine (unit n j) os) symbol) (λ j l. H .forms symbol j h (omega arith))
+      columns-same 0 n (tableCoefficient table symbol) (λ j. entryAt (machine (unit n j) os) symbol) (λ j l. H .forms symbol j h (omega arith))
       ∙ sym (entry-columns n os symbol)
 
   pub output-row-is : (o : Output) → o .symbol < n + length os → outputRow table n o ≡ outputForm n os o
@@ -143,9 +144,9 @@ module _ (n : ℕ) (os : List Operation) (table : List ℤ) (H : HoldsForms n os
         last j = sym (rw (length-unit n j) at (machine-last (unit n j) os o))
 
     -- after the operation's row is written the table holds the forms of one operation more
-    pub appended-holds : n ≤ 8 → n + length os < 512 → HoldsForms n (os ++ (o ∷ [])) (formAppended table n o (n + length os))
+    pub appended-holds : n ≤ maxColumns → n + length os < symbols → HoldsForms n (os ++ (o ∷ [])) (formAppended table n o (n + length os))
     appended-holds l r = record {
-      room = length-sets table (symbol * 8) (operationRow table n o) ∙ H .room;
+      room = length-sets table (symbol * maxColumns) (operationRow table n o) ∙ H .room;
       forms = λ k j a h. go k j (omega (arith, length-append os (o ∷ []))) h (decLt k symbol);
     }
       where
@@ -153,15 +154,15 @@ module _ (n : ℕ) (os : List Operation) (table : List ℤ) (H : HoldsForms n os
         symbol = n + length os
 
         go : (k j : ℕ) → k < suc (n + length os) → j < n → Dec (k < n + length os)
-            → coefficientAt (formAppended table n o (n + length os)) k j ≡ getD (machine (unit n j) (os ++ (o ∷ []))) k (pos 0)
+            → tableCoefficient (formAppended table n o (n + length os)) k j ≡ getD (machine (unit n j) (os ++ (o ∷ []))) k (pos 0)
         go k j a h (yes b) =
-            sets-below (pos 0) (operationRow table n o) table ((n + length os) * 8) (k * 8 + j) (omega arith)
+            sets-below (pos 0) (operationRow table n o) table ((n + length os) * maxColumns) (k * maxColumns + j) (omega arith)
             ∙ H .forms k j b h
             ∙ sym (machine-keeps-after (unit n j) os (o ∷ []) k (rw (length-unit n j) b))
         go k j a h (no b) =
             let e : k ≡ n + length os = omega arith in
             rw e (
-            sets-inside (pos 0) (operationRow table n o) table ((n + length os) * 8) j
+            sets-inside (pos 0) (operationRow table n o) table ((n + length os) * maxColumns) j
             (omega (arith, length-columns 0 n (operationCoefficient table o)))
             (omega (arith, length-columns 0 n (operationCoefficient table o), H .room))
             ∙ columns-at 0 n (operationCoefficient table o) j h

@@ -33,13 +33,13 @@ Earlier s [] = Unit {0}
 Earlier s (o ∷ os) = ((o .a < s) × (o .b < s)) × Earlier (suc s) os
 
 -- plus or minus an entry times 2^shift, or zero
-abbrev pub signed : ℕ → ℤ → ℤ
-signed zero z = z
-signed (suc zero) z = negℤ z
-signed (suc (suc _)) z = pos 0
+abbrev pub withSign : ℕ → ℤ → ℤ
+withSign zero z = z
+withSign (suc zero) z = negℤ z
+withSign (suc (suc _)) z = pos 0
 
 abbrev pub outputValue : List ℤ → Output → ℤ
-outputValue entries o = signed (o .sign) (shifted (entryAt entries (o .symbol)) (o .shift))
+outputValue entries o = withSign (o .sign) (shifted (entryAt entries (o .symbol)) (o .shift))
 
 -- row times vector: the sum over the columns of coefficient times sample
 unfoldable pub times : List ℤ → List ℤ → ℤ

@@ -5,6 +5,7 @@ use mathlib.Core.Path.{_≡_}
 use mathlib.Core.List.{List, [], _∷_}
 use lib.IntN.{pos, negsuc}
 use lib.ListN.{replicate}
+use Rattle.limits.specs.Limits.{sampleWidth}
 use Rattle.layout.specs.declared.Operation.{Operation}
 use Rattle.layout.specs.declared.Output.{Output}
 use Rattle.width.specs.Machine.{entryAt, machine, outputValue}
@@ -40,9 +41,9 @@ negatedChain = record { sign = 1; symbol = 14; shift = 0; width = 35 }
 -- "width of x0 + x1 is 17, of −x0 17, of eight times −32,768 summed 35": as worked out from the coefficients, and as defined, over all
 -- samples, of what the board machine computes
 pub record MarkedWidths : Type 0 where
-  pub sum : width 16 (pos 1 ∷ pos 1 ∷ []) ≡ 17
-  pub negated : width 16 (negsuc 0 ∷ []) ≡ 17
-  pub eight : width 16 (replicate 8 (negsuc 32767)) ≡ 35
-  pub sum-is : IsWidth 16 2 (λ xs. entryAt (machine xs sumOfTwo) 2) 17
-  pub negated-is : IsWidth 16 1 (λ xs. outputValue (machine xs []) negatedSample) 17
-  pub eight-is : IsWidth 16 8 (λ xs. outputValue (machine xs chainOfEight) negatedChain) 35
+  pub sum : width sampleWidth (pos 1 ∷ pos 1 ∷ []) ≡ 17
+  pub negated : width sampleWidth (negsuc 0 ∷ []) ≡ 17
+  pub eight : width sampleWidth (replicate 8 (negsuc 32767)) ≡ 35
+  pub sum-is : IsWidth sampleWidth 2 (λ xs. entryAt (machine xs sumOfTwo) 2) 17
+  pub negated-is : IsWidth sampleWidth 1 (λ xs. outputValue (machine xs []) negatedSample) 17
+  pub eight-is : IsWidth sampleWidth 8 (λ xs. outputValue (machine xs chainOfEight) negatedChain) 35

@@ -1,16 +1,23 @@
 // Document 01, "Netlist and board machine": what an operation and an output make of earlier entries, the coefficients of each entry
-// and its width, and depth. Rests on integers and layout.
-// A table that is lent has the coefficients of a symbol in its row of eight, at symbol * 8 + column, or a value or a depth by symbol.
+// and its width, and depth. Rests on limits, integers and layout.
+// A table that is lent has the coefficients of a symbol in a row of its own, at symbol * MAX_COLUMNS + column, or a value or a depth by
+// symbol.
 use layout::Operation;
 use layout::Output;
+use limits::MAX_COLUMNS;
+use limits::SYMBOLS;
 ghost use mathlib.Core.Path.{_≡_};
 ghost use Prim.Native.Nat.{_+_, _*_, _-_, _^_, _≤_, _<_, max, pred};
 ghost use lib.IntN.{pos};
 ghost use lib.ListN.{getD};
 ghost use lib.Seq.{sets};
-ghost use Rattle.width.specs.Machine.{shifted, joined, signed, entryAt, operationDepth, unit};
+ghost use Rattle.limits.specs.Limits.{maxColumns, symbols};
+ghost use Rattle.width.specs.Machine.{shifted, joined, withSign, entryAt, operationDepth, unit};
 ghost use Rattle.width.specs.Width.{positivePart, negativePart, positives, negatives, bits, widthOf, width};
-ghost use Rattle.width.specs.Table.{filled, Small, SmallForms, SmallRange, row, outputRow, formAppended, formsStarted, valueAppended};
+ghost use Rattle.width.specs.Table.{filled, formsLength, Small, SmallForms, SmallRange, row, outputRow, formAppended, formsStarted, valueAppended};
+
+// The length of a table of coefficients.
+pub const FORMS_LENGTH: usize = SYMBOLS * MAX_COLUMNS;
 
 // A·2^sA + B·2^sB, or A·2^sA − B·2^sB: of entries, and of their coefficients.
 pub fn combined(sign: u8, a: i64, sa: u8, b: i64, sb: u8) -> i64
@@ -25,7 +32,7 @@ pub fn combined(sign: u8, a: i64, sa: u8, b: i64, sb: u8) -> i64
 // Plus or minus an entry times 2^shift, or zero.
 pub fn output_value(sign: u8, z: i64, shift: u8) -> i64
     requires { ⌜ Small z shift ⌝ }
-    ensures { λ r. ⌜ r ≡ signed sign (shifted z shift) ⌝ }
+    ensures { λ r. ⌜ r ≡ withSign sign (shifted z shift) ⌝ }
 {
     let x = integers::shifted(z, shift);
     if sign == 0 {
@@ -102,15 +109,15 @@ struct Sums {
 }
 
 // The sums of the positive and of the negative coefficients of a symbol.
-fn sums_of(table: &[i64; 4096], symbol: usize, n: usize) -> Sums
-    requires { ⌜ (symbol < 512) × (n ≤ 8) ⌝ }
+fn sums_of(table: &[i64; FORMS_LENGTH], symbol: usize, n: usize) -> Sums
+    requires { ⌜ (symbol < symbols) × (n ≤ maxColumns) ⌝ }
     requires { ⌜ positives (row (now table) n symbol) + negatives (row (now table) n symbol) < 2 ^ 62 ⌝ }
     ensures { λ r. ⌜ r ≡ record { positives = positives (row (now (table .entry)) n symbol); negatives = negatives (row (now (table .entry)) n symbol) } ⌝ }
 {
     let mut positives: u64 = 0;
     let mut negatives: u64 = 0;
     for j in 0..n {
-        let c = table[symbol * 8 + j];
+        let c = table[symbol * MAX_COLUMNS + j];
         positives += positive_part(c);
         negatives += negative_part(c);
     }
@@ -121,8 +128,8 @@ fn sums_of(table: &[i64; 4096], symbol: usize, n: usize) -> Sums
 }
 
 // The width of a symbol's entry over samples of s bits.
-pub fn entry_width(table: &[i64; 4096], symbol: usize, n: usize, s: u8) -> u8
-    requires { ⌜ (symbol < 512) × (n ≤ 8) ⌝ }
+pub fn entry_width(table: &[i64; FORMS_LENGTH], symbol: usize, n: usize, s: u8) -> u8
+    requires { ⌜ (symbol < symbols) × (n ≤ maxColumns) ⌝ }
     requires { ⌜ (1 ≤ s) × (s ≤ 62) ⌝ }
     requires { ⌜ SmallRange s (row (now table) n symbol) ⌝ }
     ensures { λ r. ⌜ r ≡ width s (row (now (table .entry)) n symbol) ⌝ }
@@ -132,8 +139,8 @@ pub fn entry_width(table: &[i64; 4096], symbol: usize, n: usize, s: u8) -> u8
 }
 
 // The width of an output over samples of s bits: its entry's range, shifted, with the ends exchanged if it is minus.
-pub fn output_width(table: &[i64; 4096], o: Output, n: usize, s: u8) -> u8
-    requires { ⌜ (o .symbol < 512) × ((o .shift < 64) × (n ≤ 8)) ⌝ }
+pub fn output_width(table: &[i64; FORMS_LENGTH], o: Output, n: usize, s: u8) -> u8
+    requires { ⌜ (o .symbol < symbols) × ((o .shift < 64) × (n ≤ maxColumns)) ⌝ }
     requires { ⌜ (1 ≤ s) × (s ≤ 62) ⌝ }
     requires { ⌜ SmallRange s (outputRow (now table) n o) ⌝ }
     ensures { λ r. ⌜ r ≡ width s (outputRow (now (table .entry)) n o) ⌝ }
@@ -153,8 +160,8 @@ pub fn output_width(table: &[i64; 4096], o: Output, n: usize, s: u8) -> u8
 }
 
 // The coefficients of an operation, from the rows of its operands into the row of its symbol.
-pub fn append_form(table: &mut [i64; 4096], o: Operation, symbol: usize, n: usize)
-    requires { ⌜ (symbol < 512) × (n ≤ 8) ⌝ }
+pub fn append_form(table: &mut [i64; FORMS_LENGTH], o: Operation, symbol: usize, n: usize)
+    requires { ⌜ (symbol < symbols) × (n ≤ maxColumns) ⌝ }
     requires { ⌜ (o .a < symbol) × (o .b < symbol) ⌝ }
     requires { ⌜ SmallForms (now table) n o ⌝ }
     ensures { λ r. ⌜ now (table .exit) ≡ formAppended (now (table .entry)) n o symbol ⌝ }
@@ -162,27 +169,27 @@ pub fn append_form(table: &mut [i64; 4096], o: Operation, symbol: usize, n: usiz
     let a = o.a as usize;
     let b = o.b as usize;
     for j in 0..n {
-        let x = table[a * 8 + j];
-        let y = table[b * 8 + j];
+        let x = table[a * MAX_COLUMNS + j];
+        let y = table[b * MAX_COLUMNS + j];
         let z = combined(o.sign, x, o.sa, y, o.sb);
-        table[symbol * 8 + j] = z;
+        table[symbol * MAX_COLUMNS + j] = z;
     }
 }
 
 // The coefficients of one sample: the unit vector of its column.
-fn start_form(table: &mut [i64; 4096], symbol: usize, n: usize)
-    requires { ⌜ (symbol < n) × (n ≤ 8) ⌝ }
-    ensures { λ r. ⌜ now (table .exit) ≡ sets (now (table .entry)) (symbol * 8) (unit n symbol) ⌝ }
+fn start_form(table: &mut [i64; FORMS_LENGTH], symbol: usize, n: usize)
+    requires { ⌜ (symbol < n) × (n ≤ maxColumns) ⌝ }
+    ensures { λ r. ⌜ now (table .exit) ≡ sets (now (table .entry)) (symbol * maxColumns) (unit n symbol) ⌝ }
 {
     for j in 0..n {
         let c: i64 = if j == symbol { 1 } else { 0 };
-        table[symbol * 8 + j] = c;
+        table[symbol * MAX_COLUMNS + j] = c;
     }
 }
 
 // The coefficients of the n samples, into their rows.
-pub fn start_forms(table: &mut [i64; 4096], n: usize)
-    requires { ⌜ n ≤ 8 ⌝ }
+pub fn start_forms(table: &mut [i64; FORMS_LENGTH], n: usize)
+    requires { ⌜ n ≤ maxColumns ⌝ }
     ensures { λ r. ⌜ now (table .exit) ≡ formsStarted (now (table .entry)) n ⌝ }
 {
     for i in 0..n {
@@ -191,8 +198,8 @@ pub fn start_forms(table: &mut [i64; 4096], n: usize)
 }
 
 // One operation's depth: 1 more than the deeper operand's.
-pub fn operation_depth(depths: &[u16; 512], o: Operation) -> u16
-    requires { ⌜ (o .a < 512) × (o .b < 512) ⌝ }
+pub fn operation_depth(depths: &[u16; SYMBOLS], o: Operation) -> u16
+    requires { ⌜ (o .a < symbols) × (o .b < symbols) ⌝ }
     requires { ⌜ (getD (now depths) (o .a) 0 < 65535) × (getD (now depths) (o .b) 0 < 65535) ⌝ }
     ensures { λ r. ⌜ r ≡ operationDepth (now (depths .entry)) o ⌝ }
 {
@@ -208,8 +215,8 @@ pub fn operation_depth(depths: &[u16; 512], o: Operation) -> u16
 }
 
 // One operation on board values: its value, at its symbol.
-pub fn append_value(values: &mut [i64; 512], o: Operation, symbol: usize)
-    requires { ⌜ (symbol < 512) × ((o .a < 512) × (o .b < 512)) ⌝ }
+pub fn append_value(values: &mut [i64; SYMBOLS], o: Operation, symbol: usize)
+    requires { ⌜ (symbol < symbols) × ((o .a < symbols) × (o .b < symbols)) ⌝ }
     requires { ⌜ Small (entryAt (now values) (o .a)) (o .sa) × Small (entryAt (now values) (o .b)) (o .sb) ⌝ }
     ensures { λ r. ⌜ now (values .exit) ≡ valueAppended (now (values .entry)) o symbol ⌝ }
 {
@@ -228,22 +235,22 @@ pub fn deeper(a: u16, b: u16) -> u16
     if a < b { b } else { a }
 }
 
-// ---- tables to lend: for the coefficients, the values and the depths of 8 samples and 504 operations
+// ---- tables to lend: for the coefficients, the values and the depths of all entries
 
-pub fn blank_forms() -> [i64; 4096]
-    ensures { λ r. ⌜ r ≡ filled 4096 (pos 0) ⌝ }
+pub fn blank_forms() -> [i64; FORMS_LENGTH]
+    ensures { λ r. ⌜ r ≡ filled formsLength (pos 0) ⌝ }
 {
-    [0; 4096]
+    [0; FORMS_LENGTH]
 }
 
-pub fn blank_values() -> [i64; 512]
-    ensures { λ r. ⌜ r ≡ filled 512 (pos 0) ⌝ }
+pub fn blank_values() -> [i64; SYMBOLS]
+    ensures { λ r. ⌜ r ≡ filled symbols (pos 0) ⌝ }
 {
-    [0; 512]
+    [0; SYMBOLS]
 }
 
-pub fn blank_depths() -> [u16; 512]
-    ensures { λ r. ⌜ r ≡ filled 512 0 ⌝ }
+pub fn blank_depths() -> [u16; SYMBOLS]
+    ensures { λ r. ⌜ r ≡ filled symbols 0 ⌝ }
 {
-    [0; 512]
+    [0; SYMBOLS]
 }

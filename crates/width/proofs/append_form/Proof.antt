@@ -11,10 +11,11 @@ use lib.Seq.{sets, getD-set-other}
 use lib.Signed.{mag}
 use mir.Syntax.{w64}
 use mir.Val.{SFits, toZ, ofZ}
+use Rattle.limits.specs.Limits.{maxColumns}
 use Rattle.layout.specs.declared.Operation.{Operation}
 use Rattle.integers.proofs.Held.{is, held, call-result}
 use Rattle.width.specs.Machine.{shifted, joined}
-use Rattle.width.specs.Table.{coefficientAt, operationCoefficient, operationRow, Small, SmallForms}
+use Rattle.width.specs.Table.{tableCoefficient, operationCoefficient, operationRow, Small, SmallForms}
 use Rattle.width.proofs.FormLaws.{length-columns, columns-at}
 use Rattle.width.proofs.TableLaws.{sets-next, sets-none}
 use Rattle.width.proofs.append_form.Statement.{statement}
@@ -22,11 +23,11 @@ use Rattle.width.proofs.append_form.Tie as tie
 
 -- the rows below the symbol's are as they were
 abbrev Kept : ℕ → List ℤ → List ℤ → Type 0
-Kept symbol table₀ table = (i : ℕ) → i < symbol * 8 → getD table i (pos 0) ≡ getD table₀ i (pos 0)
+Kept symbol table₀ table = (i : ℕ) → i < symbol * maxColumns → getD table i (pos 0) ≡ getD table₀ i (pos 0)
 
 abbrev Inv-loop : tie.InvT-loop
 Inv-loop table₀ o symbol n a b j₀ table j =
-    (j ≤ n) × ((sets table (symbol * 8 + j) (drop j (operationRow table₀ n o)) ≡ sets table₀ (symbol * 8) (operationRow table₀ n o)) × Kept symbol table₀ table)
+    (j ≤ n) × ((sets table (symbol * maxColumns + j) (drop j (operationRow table₀ n o)) ≡ sets table₀ (symbol * maxColumns) (operationRow table₀ n o)) × Kept symbol table₀ table)
 
 abbrev μ-loop : tie.MeasureT-loop
 μ-loop table₀ o symbol n a b j₀ table j = n - j
@@ -38,7 +39,7 @@ cast-b : tie.Need-cast-b Inv-loop μ-loop
 cast-b c = omega arith
 
 loop-holds : tie.Need-loop-holds Inv-loop μ-loop
-loop-holds c = let e : c .before .before .args .symbol * 8 + 0 ≡ c .before .before .args .symbol * 8 = omega arith in (omega arith, (rw e refl, λ i h. refl))
+loop-holds c = let e : c .before .before .args .symbol * maxColumns + 0 ≡ c .before .before .args .symbol * maxColumns = omega arith in (omega arith, (rw e refl, λ i h. refl))
 
 mul-x : tie.Need-mul-x Inv-loop μ-loop
 mul-x c = omega arith
@@ -65,19 +66,19 @@ element-copy-out-y : tie.Need-element-copy-out-y Inv-loop μ-loop
 element-copy-out-y c = omega arith
 
 -- one turn, over plain numbers
-module _ (table₀ table : List ℤ) (o : Operation) (symbol n j : ℕ) (kept : Kept symbol table₀ table) (h : j < n) (l : n ≤ 8) (ha : o .a < symbol) (hb : o .b < symbol)
-    (fx : SFits w64 (coefficientAt table (o .a) j)) (fy : SFits w64 (coefficientAt table (o .b) j)) where
+module _ (table₀ table : List ℤ) (o : Operation) (symbol n j : ℕ) (kept : Kept symbol table₀ table) (h : j < n) (l : n ≤ maxColumns) (ha : o .a < symbol) (hb : o .b < symbol)
+    (fx : SFits w64 (tableCoefficient table (o .a) j)) (fy : SFits w64 (tableCoefficient table (o .b) j)) where
   abbrev x : ℤ
-  x = toZ w64 (ofZ w64 (coefficientAt table (o .a) j))
+  x = toZ w64 (ofZ w64 (tableCoefficient table (o .a) j))
 
   abbrev y : ℤ
-  y = toZ w64 (ofZ w64 (coefficientAt table (o .b) j))
+  y = toZ w64 (ofZ w64 (tableCoefficient table (o .b) j))
 
-  x-is : x ≡ coefficientAt table₀ (o .a) j
-  x-is = is (held fx) ∙ kept (o .a * 8 + j) (omega arith)
+  x-is : x ≡ tableCoefficient table₀ (o .a) j
+  x-is = is (held fx) ∙ kept (o .a * maxColumns + j) (omega arith)
 
-  y-is : y ≡ coefficientAt table₀ (o .b) j
-  y-is = is (held fy) ∙ kept (o .b * 8 + j) (omega arith)
+  y-is : y ≡ tableCoefficient table₀ (o .b) j
+  y-is = is (held fy) ∙ kept (o .b * maxColumns + j) (omega arith)
 
   asked : SmallForms table₀ n o → Small x (o .sa) × Small y (o .sb)
   asked s = (rw x-is (s .first j h), rw y-is (s .second j h))
@@ -89,11 +90,11 @@ module _ (table₀ table : List ℤ) (o : Operation) (symbol n j : ℕ) (kept : 
     written : toZ w64 (ofZ w64 r) ≡ getD (operationRow table₀ n o) j (pos 0)
     written = call-result w64 ok e ∙ rw (x-is, y-is) (sym row-at)
 
-    next : sets (set table (symbol * 8 + j) (toZ w64 (ofZ w64 r))) (symbol * 8 + suc j) (drop (suc j) (operationRow table₀ n o)) ≡ sets table (symbol * 8 + j) (drop j (operationRow table₀ n o))
-    next = sets-next (pos 0) (operationRow table₀ n o) table (symbol * 8) j (toZ w64 (ofZ w64 r)) (omega (arith, length-columns 0 n (operationCoefficient table₀ o))) written
+    next : sets (set table (symbol * maxColumns + j) (toZ w64 (ofZ w64 r))) (symbol * maxColumns + suc j) (drop (suc j) (operationRow table₀ n o)) ≡ sets table (symbol * maxColumns + j) (drop j (operationRow table₀ n o))
+    next = sets-next (pos 0) (operationRow table₀ n o) table (symbol * maxColumns) j (toZ w64 (ofZ w64 r)) (omega (arith, length-columns 0 n (operationCoefficient table₀ o))) written
 
-    kept-next : Kept symbol table₀ (set table (symbol * 8 + j) (toZ w64 (ofZ w64 r)))
-    kept-next i k = getD-set-other table (symbol * 8 + j) i (toZ w64 (ofZ w64 r)) (pos 0) (λ d. omega arith) ∙ kept i k
+    kept-next : Kept symbol table₀ (set table (symbol * maxColumns + j) (toZ w64 (ofZ w64 r)))
+    kept-next i k = getD-set-other table (symbol * maxColumns + j) i (toZ w64 (ofZ w64 r)) (pos 0) (λ d. omega arith) ∙ kept i k
 
 combined-requires : tie.Need-combined-requires Inv-loop μ-loop
 combined-requires c κs = let L = c .before .before .before in let s = L .before .before .before in
@@ -131,7 +132,7 @@ loop-again c = let L = c .before .before .before .before in let s = L .before .b
 
 returns : tie.Need-returns Inv-loop μ-loop
 returns c = let L = c .before in let s = L .before .before .before in
-    sym (sets-none (pos 0) (operationRow (s .args .table .now) (s .args .n) (s .args .o)) (L .loop .table) (s .args .symbol * 8 + L .loop .j) (L .loop .j)
+    sym (sets-none (pos 0) (operationRow (s .args .table .now) (s .args .n) (s .args .o)) (L .loop .table) (s .args .symbol * maxColumns + L .loop .j) (L .loop .j)
     (omega (arith, length-columns 0 (s .args .n) (operationCoefficient (s .args .table .now) (s .args .o))))) ∙ L .loop .inv .1 .0
 
 pub append-form-spec : {M : Type 1} → statement M

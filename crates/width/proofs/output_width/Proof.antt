@@ -8,7 +8,7 @@ use lib.Pow.{pow-pos}
 use lib.IntN.{ℤ}
 use Rattle.width.specs.declared.Sums.{Sums}
 use Rattle.width.specs.Width.{positives, negatives, widthOf}
-use Rattle.width.specs.Table.{coefficientAt, columns}
+use Rattle.width.specs.Table.{tableCoefficient, eachColumn}
 use Rattle.width.proofs.OutputLaws.{plus-width, minus-width, zero-width, turned-spread}
 use Rattle.width.proofs.output_width.Statement.{statement}
 use Rattle.width.proofs.output_width.Tie as tie
@@ -26,7 +26,7 @@ bounds p q h s k =
 
 returns : tie.Need-returns
 returns c = let s = c .before .before in
-    zero-width (coefficientAt (s .args .table .now) (s .args .o .symbol)) (s .args .n) (s .args .s) (s .args .o .shift) (s .args .o .sign) (c .if1 .taken)
+    zero-width (tableCoefficient (s .args .table .now) (s .args .o .symbol)) (s .args .n) (s .args .s) (s .args .o .shift) (s .args .o .sign) (c .if1 .taken)
 
 cast-symbol : tie.Need-cast-symbol
 cast-symbol c = search needs
@@ -36,22 +36,22 @@ module _ (c : tie.After-struct-known2) where
   s = c .before .before .before
 
   abbrev f : ℕ → ℤ
-  f = coefficientAt (s .args .table .now) (s .args .o .symbol)
+  f = tableCoefficient (s .args .table .now) (s .args .o .symbol)
 
-  spread : 2 ^ (s .args .s - 1) * (positives (columns (s .args .n) f) * 2 ^ s .args .o .shift + negatives (columns (s .args .n) f) * 2 ^ s .args .o .shift) < 2 ^ 62
+  spread : 2 ^ (s .args .s - 1) * (positives (eachColumn (s .args .n) f) * 2 ^ s .args .o .shift + negatives (eachColumn (s .args .n) f) * 2 ^ s .args .o .shift) < 2 ^ 62
   spread = turned-spread f (s .args .n) (s .args .s) (s .args .o .shift) (s .args .o .sign) (c .before .if1 .left) (s .pre .1 .1)
 
-  bound : Bounds (positives (columns (s .args .n) f)) (negatives (columns (s .args .n) f)) (s .args .o .shift) (s .args .s)
-  bound = bounds (positives (columns (s .args .n) f)) (negatives (columns (s .args .n) f)) (s .args .o .shift) (s .args .s) spread
+  bound : Bounds (positives (eachColumn (s .args .n) f)) (negatives (eachColumn (s .args .n) f)) (s .args .o .shift) (s .args .s)
+  bound = bounds (positives (eachColumn (s .args .n) f)) (negatives (eachColumn (s .args .n) f)) (s .args .o .shift) (s .args .s) spread
 
 sums-of-requires : tie.Need-sums-of-requires
 sums-of-requires c κs = ((s c .pre .0 .0, s c .pre .0 .1 .1), bound c .sums)
 
 module _ (c : tie.After-sums-of) where
-  above-is : c .sums-of .result .positives ≡ positives (columns (s (c .before) .args .n) (f (c .before)))
+  above-is : c .sums-of .result .positives ≡ positives (eachColumn (s (c .before) .args .n) (f (c .before)))
   above-is = ap (λ (t : Sums). t .positives) (c .sums-of .ensures)
 
-  below-is : c .sums-of .result .negatives ≡ negatives (columns (s (c .before) .args .n) (f (c .before)))
+  below-is : c .sums-of .result .negatives ≡ negatives (eachColumn (s (c .before) .args .n) (f (c .before)))
   below-is = ap (λ (t : Sums). t .negatives) (c .sums-of .ensures)
 
 scaled-requires : tie.Need-scaled-requires
@@ -64,10 +64,10 @@ module _ (c : tie.After-struct-known3) where
   abbrev k : tie.After-struct-known2
   k = c .before .before .before .before
 
-  above : c .before .before .scaled .result ≡ positives (columns (s k .args .n) (f k)) * 2 ^ s k .args .o .shift
+  above : c .before .before .scaled .result ≡ positives (eachColumn (s k .args .n) (f k)) * 2 ^ s k .args .o .shift
   above = c .before .before .scaled .ensures ∙ ap (λ (p : ℕ). p * 2 ^ s k .args .o .shift) (above-is (c .before .before .before))
 
-  below : c .before .scaled2 .result ≡ negatives (columns (s k .args .n) (f k)) * 2 ^ s k .args .o .shift
+  below : c .before .scaled2 .result ≡ negatives (eachColumn (s k .args .n) (f k)) * 2 ^ s k .args .o .shift
   below = c .before .scaled2 .ensures ∙ ap (λ (p : ℕ). p * 2 ^ s k .args .o .shift) (below-is (c .before .before .before))
 
 -- what `width_of` asks

@@ -9,6 +9,7 @@ use lib.ListN.{getD, drop}
 use lib.Seq.{sets}
 use mir.Syntax.{w64}
 use mir.Val.{toZ}
+use Rattle.limits.specs.Limits.{maxColumns}
 use Rattle.width.specs.Machine.{unit}
 use Rattle.width.proofs.FormLaws.{length-unit, unit-same, unit-other}
 use Rattle.width.proofs.TableLaws.{sets-next, sets-none}
@@ -16,13 +17,13 @@ use Rattle.width.proofs.start_form.Statement.{statement}
 use Rattle.width.proofs.start_form.Tie as tie
 
 abbrev Inv-loop : tie.InvT-loop
-Inv-loop table₀ symbol n j₀ table j = (j ≤ n) × (sets table (symbol * 8 + j) (drop j (unit n symbol)) ≡ sets table₀ (symbol * 8) (unit n symbol))
+Inv-loop table₀ symbol n j₀ table j = (j ≤ n) × (sets table (symbol * maxColumns + j) (drop j (unit n symbol)) ≡ sets table₀ (symbol * maxColumns) (unit n symbol))
 
 abbrev μ-loop : tie.MeasureT-loop
 μ-loop table₀ symbol n j₀ table j = n - j
 
 loop-holds : tie.Need-loop-holds Inv-loop μ-loop
-loop-holds c = let e : c .args .symbol * 8 + 0 ≡ c .args .symbol * 8 = omega arith in (omega arith, rw e refl)
+loop-holds c = let e : c .args .symbol * maxColumns + 0 ≡ c .args .symbol * maxColumns = omega arith in (omega arith, rw e refl)
 
 mul-c : tie.Need-mul-c Inv-loop μ-loop
 mul-c c = omega arith
@@ -55,14 +56,14 @@ loop-again c = let L = c .before .before in let s = L .before in
     (λ w. none-is (s .args .n) (s .args .symbol) (L .loop .j) (c .if1 .c) (w .0 .left) (w .1)) (c .if1 .came) in
     rw add-one (
       omega arith,
-      sets-next (pos 0) (unit (s .args .n) (s .args .symbol)) (L .loop .table) (s .args .symbol * 8) (L .loop .j) (toZ w64 (c .if1 .c))
+      sets-next (pos 0) (unit (s .args .n) (s .args .symbol)) (L .loop .table) (s .args .symbol * maxColumns) (L .loop .j) (toZ w64 (c .if1 .c))
           (omega (arith, length-unit (s .args .n) (s .args .symbol), c .before .loop-test .taken)) v
           ∙ L .loop .inv .1,
     )
 
 returns : tie.Need-returns Inv-loop μ-loop
 returns c = let L = c .before in let s = L .before in
-    sym (sets-none (pos 0) (unit (s .args .n) (s .args .symbol)) (L .loop .table) (s .args .symbol * 8 + L .loop .j) (L .loop .j)
+    sym (sets-none (pos 0) (unit (s .args .n) (s .args .symbol)) (L .loop .table) (s .args .symbol * maxColumns + L .loop .j) (L .loop .j)
     (omega (arith, length-unit (s .args .n) (s .args .symbol), c .loop-test .left))) ∙ L .loop .inv .1
 
 pub start-form-spec : {M : Type 1} → statement M

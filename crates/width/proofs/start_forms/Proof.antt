@@ -6,6 +6,7 @@ use native.Mathlib.Numerals.{add-one}
 use mathlib.Core.List.{List}
 use lib.IntN.{ℤ}
 use lib.Seq.{sets}
+use Rattle.limits.specs.Limits.{maxColumns}
 use Rattle.width.specs.Machine.{unit}
 use Rattle.width.specs.Table.{unitRowsFrom}
 use Rattle.width.proofs.start_forms.Statement.{statement}
@@ -18,7 +19,7 @@ abbrev μ-loop : tie.MeasureT-loop
 μ-loop table₀ n i₀ table i = n - i
 
 -- one row of those that are left, and none
-next : (n i : ℕ) (table later : List ℤ) → i < n → later ≡ sets table (i * 8) (unit n i) → unitRowsFrom n (suc i) (n - suc i) later ≡ unitRowsFrom n i (n - i) table
+next : (n i : ℕ) (table later : List ℤ) → i < n → later ≡ sets table (i * maxColumns) (unit n i) → unitRowsFrom n (suc i) (n - suc i) later ≡ unitRowsFrom n i (n - i) table
 unfolding unitRowsFrom
 next n i table later h e = let less : n - i ≡ suc (n - suc i) = omega arith in rw (less, e) refl
 

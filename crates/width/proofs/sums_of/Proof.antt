@@ -9,15 +9,15 @@ use mir.Val.{toZ, ofZ}
 use Rattle.integers.proofs.Held.{is, held}
 use Rattle.width.specs.declared.Sums.{Sums}
 use Rattle.width.specs.Width.{positivePart, negativePart, positives, negatives}
-use Rattle.width.specs.Table.{coefficientAt, columnsFrom, columns}
+use Rattle.width.specs.Table.{tableCoefficient, eachColumnFrom, eachColumn}
 use Rattle.width.proofs.sums_of.Statement.{statement}
 use Rattle.width.proofs.sums_of.Tie as tie
 
 abbrev Inv-loop : tie.InvT-loop
 Inv-loop table symbol n positives₀ negatives₀ j₀ p q j =
     (j ≤ n)
-    × ((p + positives (columnsFrom j (n - j) (coefficientAt table symbol)) ≡ positives (columns n (coefficientAt table symbol)))
-    × (q + negatives (columnsFrom j (n - j) (coefficientAt table symbol)) ≡ negatives (columns n (coefficientAt table symbol))))
+    × ((p + positives (eachColumnFrom j (n - j) (tableCoefficient table symbol)) ≡ positives (eachColumn n (tableCoefficient table symbol)))
+    × (q + negatives (eachColumnFrom j (n - j) (tableCoefficient table symbol)) ≡ negatives (eachColumn n (tableCoefficient table symbol))))
 
 abbrev μ-loop : tie.MeasureT-loop
 μ-loop table symbol n positives₀ negatives₀ j₀ p q j = n - j
@@ -26,20 +26,20 @@ abbrev μ-loop : tie.MeasureT-loop
 left : (j n : ℕ) → j < n → n - j ≡ suc (n - suc j)
 left j n h = omega arith
 
-next-positives : (f : ℕ → ℤ) (j n : ℕ) → j < n → positives (columnsFrom j (n - j) f) ≡ positivePart (f j) + positives (columnsFrom (suc j) (n - suc j) f)
-unfolding positives columnsFrom
+next-positives : (f : ℕ → ℤ) (j n : ℕ) → j < n → positives (eachColumnFrom j (n - j) f) ≡ positivePart (f j) + positives (eachColumnFrom (suc j) (n - suc j) f)
+unfolding positives eachColumnFrom
 next-positives f j n h = rw (left j n h) refl
 
-next-negatives : (f : ℕ → ℤ) (j n : ℕ) → j < n → negatives (columnsFrom j (n - j) f) ≡ negativePart (f j) + negatives (columnsFrom (suc j) (n - suc j) f)
-unfolding negatives columnsFrom
+next-negatives : (f : ℕ → ℤ) (j n : ℕ) → j < n → negatives (eachColumnFrom j (n - j) f) ≡ negativePart (f j) + negatives (eachColumnFrom (suc j) (n - suc j) f)
+unfolding negatives eachColumnFrom
 next-negatives f j n h = rw (left j n h) refl
 
-none-positives : (f : ℕ → ℤ) (n : ℕ) → positives (columnsFrom n (n - n) f) ≡ 0
-unfolding positives columnsFrom
+none-positives : (f : ℕ → ℤ) (n : ℕ) → positives (eachColumnFrom n (n - n) f) ≡ 0
+unfolding positives eachColumnFrom
 none-positives f n = let e : n - n ≡ 0 = omega arith in rw e refl
 
-none-negatives : (f : ℕ → ℤ) (n : ℕ) → negatives (columnsFrom n (n - n) f) ≡ 0
-unfolding negatives columnsFrom
+none-negatives : (f : ℕ → ℤ) (n : ℕ) → negatives (eachColumnFrom n (n - n) f) ≡ 0
+unfolding negatives eachColumnFrom
 none-negatives f n = let e : n - n ≡ 0 = omega arith in rw e refl
 
 loop-holds : tie.Need-loop-holds Inv-loop μ-loop
@@ -68,7 +68,7 @@ module _ (c : tie.After-positive-part Inv-loop μ-loop) where
   L = c .before .before .before
 
   abbrev f : ℕ → ℤ
-  f = coefficientAt (L .before .args .table .now) (L .before .args .symbol)
+  f = tableCoefficient (L .before .args .table .now) (L .before .args .symbol)
 
   read : toZ w64 (ofZ w64 (f (L .loop .j))) ≡ f (L .loop .j)
   read = is (held (record { sfits = c .before .c .given }))
@@ -115,7 +115,7 @@ returns c = both (ends (none-positives f' n) (rw at-end at (c .before .loop .inv
     n = c .before .before .args .n
 
     f' : ℕ → ℤ
-    f' = coefficientAt (c .before .before .args .table .now) (c .before .before .args .symbol)
+    f' = tableCoefficient (c .before .before .args .table .now) (c .before .before .args .symbol)
 
     at-end : c .before .loop .j ≡ c .before .before .args .n
     at-end = omega arith

@@ -11,8 +11,8 @@ use mir.Val.{SFits, toZ, ofZ}
 use Rattle.integers.proofs.Held.{Held, is, held, held-is, need-cast, held-cast, when-eq, when-ne}
 use Rattle.layout.specs.declared.Output.{Output}
 use Rattle.layout.specs.Matrix.{coefficientsFrom}
-use Rattle.width.specs.Machine.{shifted, signed}
-use Rattle.width.specs.Table.{Small, coefficientAt, columnsFrom}
+use Rattle.width.specs.Machine.{shifted, withSign}
+use Rattle.width.specs.Table.{Small, tableCoefficient, eachColumnFrom}
 use Rattle.reading.specs.Check.{sameRow}
 use Rattle.checker.proofs.CheckLaws.{columns-start, column-same, column-differs, columns-end}
 use Rattle.checker.proofs.check.same_row.Statement.{statement}
@@ -20,13 +20,13 @@ use Rattle.checker.proofs.check.same_row.Tie as tie
 
 -- an output's coefficient of column j
 abbrev f : List ℤ → Output → ℕ → ℤ
-f forms o j = signed (o .sign) (shifted (coefficientAt forms (o .symbol) j) (o .shift))
+f forms o j = withSign (o .sign) (shifted (tableCoefficient forms (o .symbol) j) (o .shift))
 
 abbrev Inv-loop : tie.InvT-loop
 Inv-loop matrix index o n forms symbol j₀ j =
     (j ≤ n)
-    × (sameRow (columnsFrom j (n - j) (f forms o)) (coefficientsFrom matrix (index + j) (n - j))
-    ≡ sameRow (columnsFrom 0 n (f forms o)) (coefficientsFrom matrix index n))
+    × (sameRow (eachColumnFrom j (n - j) (f forms o)) (coefficientsFrom matrix (index + j) (n - j))
+    ≡ sameRow (eachColumnFrom 0 n (f forms o)) (coefficientsFrom matrix index n))
 
 abbrev μ-loop : tie.MeasureT-loop
 μ-loop matrix index o n forms symbol j₀ j = n - j
@@ -50,18 +50,18 @@ element-copy-out-c : tie.Need-element-copy-out-c Inv-loop μ-loop
 element-copy-out-c c = omega arith
 
 -- the two coefficients, over plain numbers
-module _ (forms : List ℤ) (o : Output) (j : ℕ) (fx : SFits w64 (coefficientAt forms (o .symbol) j)) where
+module _ (forms : List ℤ) (o : Output) (j : ℕ) (fx : SFits w64 (tableCoefficient forms (o .symbol) j)) where
   abbrev x : ℤ
-  x = toZ w64 (ofZ w64 (coefficientAt forms (o .symbol) j))
+  x = toZ w64 (ofZ w64 (tableCoefficient forms (o .symbol) j))
 
-  x-is : x ≡ coefficientAt forms (o .symbol) j
+  x-is : x ≡ tableCoefficient forms (o .symbol) j
   x-is = is (held fx)
 
-  asked : Small (coefficientAt forms (o .symbol) j) (o .shift) → Small x (o .shift)
+  asked : Small (tableCoefficient forms (o .symbol) j) (o .shift) → Small x (o .shift)
   asked s = rw x-is s
 
-  first : (r : ℤ) → mag r < 2 ^ 63 → r ≡ signed (o .sign) (shifted x (o .shift)) → Held w64 (ofZ w64 r) (f forms o j)
-  first r ok e = held-is (held (record { sfits = ok })) (e ∙ ap (λ (z : ℤ). signed (o .sign) (shifted z (o .shift))) x-is)
+  first : (r : ℤ) → mag r < 2 ^ 63 → r ≡ withSign (o .sign) (shifted x (o .shift)) → Held w64 (ofZ w64 r) (f forms o j)
+  first r ok e = held-is (held (record { sfits = ok })) (e ∙ ap (λ (z : ℤ). withSign (o .sign) (shifted z (o .shift))) x-is)
 
 wider : (r : ℤ) → mag r < 2 ^ 15 → SFits w64 r
 wider r ok = record { sfits = omega (arith, ok) }

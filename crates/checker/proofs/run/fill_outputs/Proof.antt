@@ -12,7 +12,7 @@ use mir.Syntax.{w64}
 use mir.Val.{SFits, toZ, ofZ}
 use Rattle.integers.proofs.Held.{is, held, call-result}
 use Rattle.layout.specs.declared.Output.{Output}
-use Rattle.width.specs.Machine.{entryAt, shifted, signed, outputValue}
+use Rattle.width.specs.Machine.{entryAt, shifted, withSign, outputValue}
 use Rattle.width.specs.Table.{Small}
 use Rattle.width.proofs.TableLaws.{sets-none}
 use Rattle.reading.specs.Read.{recordRefusal, headAt, outputPlace, outputAt}
@@ -110,7 +110,7 @@ module _ (values : List ℤ) (p : Output) (fx : SFits w64 (entryAt values (p .sy
   asked : Small (entryAt values (p .symbol)) (p .shift) → Small (toZ w64 (ofZ w64 (entryAt values (p .symbol)))) (p .shift)
   asked z = rw (is (held fx)) z
 
-  value : (r : ℤ) → mag r < 2 ^ 63 → r ≡ signed (p .sign) (shifted (toZ w64 (ofZ w64 (entryAt values (p .symbol)))) (p .shift)) → toZ w64 (ofZ w64 r) ≡ outputValue values p
+  value : (r : ℤ) → mag r < 2 ^ 63 → r ≡ withSign (p .sign) (shifted (toZ w64 (ofZ w64 (entryAt values (p .symbol)))) (p .shift)) → toZ w64 (ofZ w64 r) ≡ outputValue values p
   value r ok e = call-result w64 ok (rw (is (held fx)) at e)
 
 output-value-requires : tie.Need-output-value-requires Inv-loop μ-loop
