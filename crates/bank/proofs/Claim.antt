@@ -3,13 +3,13 @@
 -- Assumes nothing.
 use Prim.Native.Nat.{ℕ, _+_, _≤_, _<_}
 use mathlib.Core.Path.{_≡_, refl, sym, ap, ap₂, _∙_, subst}
-use mathlib.Core.Bool.{false, _||_}
 use mathlib.Core.List.{List, List·Memᴰ}
 use native.Mathlib.Omega.{arith}
 use lib.IntN.{ℤ}
 use lib.ListN.{length, getD, drop}
 use lib.Seq.{take-append-seam}
-use borrow.Author.Tests.{le-ltb}
+use Rattle.limits.specs.Limits.{positions, sampleWidth, maxOperations}
+use Rattle.limits.proofs.Size.{size-inside}
 use Rattle.elimination.specs.declared.Divisor.{Divisor}
 use Rattle.elimination.specs.Rows.{Row, matrixRows}
 use Rattle.elimination.specs.Divisors.{Pair, occurrences}
@@ -17,22 +17,23 @@ use Rattle.elimination.specs.Elimination.{smallestFirst, matrixElimination}
 use Rattle.elimination.specs.Steps.{Steps}
 use Rattle.elimination.proofs.RowOrder.{rowAt, occurrence}
 use Rattle.elimination.proofs.Elimination.{steps-of, remaining-overlap}
-use Rattle.layout.specs.declared.Operation.{Operation}
-use Rattle.layout.specs.declared.Output.{Output}
-use Rattle.layout.specs.Matrix.{matrixRefusal, matrix, rows, columns, outside}
+use Rattle.layout.specs.Matrix.{matrixRefusal, matrix, rows, columns}
 use Rattle.layout.specs.Records.{Netlist}
+use Rattle.layout.specs.Places.{enoughBytes}
 use Rattle.layout.proofs.MatrixRefusal.{AcceptedMatrix, accepted-matrix, none}
 use Rattle.width.specs.Width.{Samples}
+use Rattle.width.specs.Netlist.{IsNetlist}
+use Rattle.width.proofs.NetlistLaws.{Wider, netlist-wider}
 use Rattle.compilation.specs.declared.CompileAnswer.{CompileAnswer}
 use Rattle.compilation.specs.Compile.{eliminationOf, netlistOf, compiledNetlist, compiledBytes, compileAccepted, compileAnswer, compileBuffer}
-use Rattle.compilation.specs.Compiled.{CompiledNetlist, CompiledOperation, CompiledOutput, AcceptedAnswer}
+use Rattle.compilation.specs.Compiled.{compiledLimits, AcceptedAnswer}
 use Rattle.compilation.proofs.Limits.{rows-columns, accepted-within}
 use Rattle.compilation.proofs.Compiled.{compiled-times, compiled-is, compiled-answer, compiled-length, answer-accepted, buffer-accepted}
 use Rattle.reading.specs.declared.ReadAnswer.{ReadAnswer}
 use Rattle.reading.specs.declared.RunAnswer.{RunAnswer}
 use Rattle.reading.specs.Read.{readAccepted, readAnswer}
 use Rattle.reading.specs.Run.{ran, runAnswer, runOutputs, netlistOutputs}
-use Rattle.reading.specs.Exact.{IsOperation, IsOutput, IsNetlist, IsNetlistBytes}
+use Rattle.reading.specs.Exact.{readLimits, IsNetlistBytes}
 use Rattle.reading.proofs.ReadAccepts.{reading-of, read-answer}
 use Rattle.reading.proofs.RunLaws.{run-fills}
 use Rattle.bank.specs.declared.Answers.{Answers}
@@ -41,14 +42,9 @@ use Rattle.bank.specs.Claim.{MatrixWithinLimits, Given, bytesWritten, Ov
 -- ---- a matrix within the limits is what compile does not refuse for the matrix's sake
 
 module _ (bytes : List ℕ) where
-  inside : (x : ℕ) → 1 ≤ x → x ≤ 8 → outside x ≡ false
-  inside x least most = rw (le-ltb x 1 least, le-ltb 8 x most)
-
   pub not-refused : MatrixWithinLimits bytes → matrixRefusal bytes ≡ 0
   not-refused w =
-      let limits : (outside (rows bytes) || outside (columns bytes)) ≡ false =
-      rw (inside (rows bytes) (w .rows-least) (w .rows-most), inside (columns bytes) (w .columns-least) (w .columns-most)) in
-      sym (none bytes (omega (arith, w .size)) (w .counted) (w .kind) limits (w .size))
+      sym (none bytes (omega (arith, w .size)) (w .counted) (w .kind) (size-inside (rows bytes) (columns bytes) (w .limits)) (w .size))
 
   pub within-limits : ((i : ℕ) → getD bytes i 0 < 256) → matrixRefusal bytes ≡ 0 → MatrixWithinLimits bytes
   within-limits all e =
@@ -57,43 +53,14 @@ module _ (bytes : List ℕ) where
         are-bytes = all;
         counted = a .counted;
         kind = a .kind;
-        rows-least = a .rows-least;
-        rows-most = a .rows-most;
-        columns-least = a .columns-least;
-        columns-most = a .columns-most;
+        limits = a .limits;
         size = a .size;
       }
 
--- ---- a compiled netlist is a netlist as read takes it: its shifts are at most 15, its widths at most 35 and so at most 40
+-- ---- a compiled netlist is a netlist as read takes it: read's limits are wider
 
-pub compiled-netlist-is : (net : Netlist) → CompiledNetlist 16 16 35 504 net → IsNetlist net
-compiled-netlist-is net c = record {
-  head = record { rows-least = c .rows-least; rows-most = c .rows-most; columns-least = c .columns-least; columns-most = c .columns-most; few = c .few };
-  count = c .count;
-  one-per-row = c .one-per-row;
-  operation = λ before after o e. of-operation before o (c .operation before after o e);
-  output = λ before after o e. of-output o (c .output before after o e);
-  totals = record { count = c .total-count; deepest = c .total-depth };
-}
-  where
-    of-operation : (before : List Operation) (o : Operation)
-        → CompiledOperation 16 16 35 (net .head .n) (net .operations) (net .head .n + length before) o → IsOperation (net .head .n) (net .operations) before o
-    of-operation before o is = record {
-      limits = record {
-        sign = is .sign;
-        first-shift = omega (arith, is .first-shift);
-        second-shift = omega (arith, is .second-shift);
-        first-earlier = is .first-earlier;
-        second-earlier = is .second-earlier;
-      };
-      width = record { width = is .width; narrow = omega (arith, is .narrow) };
-    }
-
-    of-output : (o : Output) → CompiledOutput 16 16 35 (net .head .n) (net .operations) o → IsOutput (net .head .n) (net .operations) o
-    of-output o is = record {
-      limits = record { sign = is .sign; shift = omega (arith, is .shift); symbol = is .symbol; zero = is .zero };
-      width = record { width = is .width; narrow = omega (arith, is .narrow) };
-    }
+pub read-takes-wider : Wider compiledLimits readLimits
+read-takes-wider = record { same-samples = refl; more-positions = omega arith; wider = omega arith; more-operations = omega arith }
 
 -- ---- the head and the bytes written
 
@@ -118,23 +85,23 @@ module _ (matrixBytes : List ℕ) (w : MatrixWithinLimits matrixBytes) where
   refusal : matrixRefusal matrixBytes ≡ 0
   refusal = not-refused matrixBytes w
 
-  compiled : CompiledNetlist 16 16 35 504 (compiledNetlist matrixBytes)
+  compiled : IsNetlist compiledLimits (compiledNetlist matrixBytes)
   compiled = compiled-is matrixBytes (w .are-bytes) refusal
 
   netlist-there : IsNetlistBytes (compiledBytes matrixBytes) (compiledNetlist matrixBytes)
-  netlist-there = record { netlist = compiled-netlist-is (compiledNetlist matrixBytes) compiled; bytes = refl }
+  netlist-there = record { netlist = netlist-wider read-takes-wider compiled; bytes = refl }
 
-  answer : AcceptedAnswer (rows matrixBytes) 504 (compileAccepted matrixBytes)
+  answer : AcceptedAnswer (rows matrixBytes) maxOperations (compileAccepted matrixBytes)
   answer = compiled-answer matrixBytes (w .are-bytes) refusal
 
   -- "6,136 bytes always suffice": so much room is long enough for any matrix's netlist
-  pub always-long-enough : (buffer : List ℕ) → 6136 ≤ length buffer → length (compiledBytes matrixBytes) ≤ length buffer
+  pub always-long-enough : (buffer : List ℕ) → enoughBytes ≤ length buffer → length (compiledBytes matrixBytes) ≤ length buffer
   always-long-enough buffer room = omega (arith, compiled-length matrixBytes (w .are-bytes) refusal)
 
   -- document 01's elimination of the matrix
-  steps : let e = eliminationOf matrixBytes in Steps (columns matrixBytes) (matrixRows 16 (matrix matrixBytes)) (e .divisors) (e .replacements) (e .remainingRows)
+  steps : let e = eliminationOf matrixBytes in Steps (columns matrixBytes) (matrixRows positions (matrix matrixBytes)) (e .divisors) (e .replacements) (e .remainingRows)
   unfolding matrixElimination
-  steps = steps-of smallestFirst 16 (columns matrixBytes) (matrix matrixBytes)
+  steps = steps-of smallestFirst positions (columns matrixBytes) (matrix matrixBytes)
 
   all-overlap : (d : Divisor) (i j : ℕ) (p q : Pair)
       → List·Memᴰ p (occurrences d (rowAt (eliminationOf matrixBytes .remainingRows) i))
@@ -142,12 +109,12 @@ module _ (matrixBytes : List ℕ) (w : MatrixWithinLimits matrixBytes) where
   unfolding matrixElimination
   all-overlap d i j p q first second =
       let remaining : List Row = eliminationOf matrixBytes .remainingRows in
-      remaining-overlap smallestFirst 16 (columns matrixBytes) (matrix matrixBytes)
-      (rows-columns 16 (columns matrixBytes) (matrix matrixBytes) (accepted-within matrixBytes (w .are-bytes) refusal .coefficients))
+      remaining-overlap smallestFirst positions (columns matrixBytes) (matrix matrixBytes)
+      (rows-columns positions (columns matrixBytes) (matrix matrixBytes) (accepted-within matrixBytes (w .are-bytes) refusal .coefficients))
       d i j p q (occurrence d (rowAt remaining i) p first) (occurrence d (rowAt remaining j) q second)
 
   -- what the contracts of compile, read and run say of their answers, of the buffer and of the outputs is enough for the claim
-  module _ (buffer : List ℕ) (samples outputs : List ℤ) (answers : Answers) (vector : Samples 16 (columns matrixBytes) samples)
+  module _ (buffer : List ℕ) (samples outputs : List ℤ) (answers : Answers) (vector : Samples sampleWidth (columns matrixBytes) samples)
       (compiles : answers .compile ≡ compileAccepted matrixBytes) (written : bytesWritten (answers .compile) buffer ≡ compiledBytes matrixBytes)
       (reads : answers .read ≡ readAccepted (compiledNetlist matrixBytes)) (runs : answers .run ≡ ran 0 0)
       (filled : outputs ≡ netlistOutputs (compiledNetlist matrixBytes) samples) where
@@ -185,8 +152,8 @@ module _ (matrixBytes : List ℕ) (w : MatrixWithinLimits matrixBytes) where
       read-depth = ap (λ (a : ReadAnswer). a .depth) reads ∙ sym (ap (λ (a : CompileAnswer). a .depth) compiles);
       machine-outputs = filled;
       row-times-vector = filled ∙ compiled-times matrixBytes (w .are-bytes) refusal samples (vector .count);
-      operation-within = λ before after o e. compiled .operation before after o e .width .holds samples vector;
-      output-within = λ before after o e. compiled .output before after o e .width .holds samples vector;
+      operation-within = λ before after o e. compiled .operation before after o e .width .width .holds samples vector;
+      output-within = λ before after o e. compiled .output before after o e .width .width .holds samples vector;
       elimination = eliminationOf matrixBytes;
       by-the-rules = refl;
       plain-reported = plain;

@@ -7,11 +7,12 @@ use mathlib.Core.List.{List, [], _∷_}
 use native.Mathlib.Omega.{arith}
 use lib.IntN.{ℤ, pos, negsuc}
 use lib.ListN.{length, getD, replicate}
+use Rattle.limits.specs.Limits.{sampleWidth}
 use Rattle.layout.specs.Matrix.{matrix, rowsFrom, coefficientsFrom, coefficientAt, signedWord}
 use Rattle.width.specs.Machine.{times, largest}
 use Rattle.width.specs.Width.{Within}
 use Rattle.width.proofs.WidthLaws.{positive-is, negative-is, between-within}
-use Rattle.compilation.specs.Marked.{threeMinusThree}
+use Rattle.compilation.specs.Marked.{threeMinusThreeRecord}
 use Rattle.compilation.proofs.Marked.{marked-banks}
 use Rattle.bank.specs.Claim.{Given, outputsAfter}
 use Rattle.bank.proofs.Claim.{claim-holds}
@@ -28,28 +29,25 @@ none-larger [] i = omega arith
 none-larger (x ∷ xs) zero = omega arith
 none-larger (x ∷ xs) (suc i) = omega (arith, none-larger xs i)
 
-largest-byte : largest threeMinusThree ≡ 255
+largest-byte : largest threeMinusThreeRecord ≡ 255
 unfolding largest
 largest-byte = refl
 
-are-bytes : (i : ℕ) → getD threeMinusThree i 0 < 256
-are-bytes i = omega (arith, none-larger threeMinusThree i, largest-byte)
+are-bytes : (i : ℕ) → getD threeMinusThreeRecord i 0 < 256
+are-bytes i = omega (arith, none-larger threeMinusThreeRecord i, largest-byte)
 
-steep-within : (j : ℕ) → j < 2 → Within 16 (getD steep j (pos 0))
-steep-within zero h = between-within 16 (pos 32767) (record { above = omega (arith, positive-is (pos 32767)); below = omega (arith, negative-is (pos 32767)) })
-steep-within (suc zero) h = between-within 16 (negsuc 32767) (record { above = omega (arith, positive-is (negsuc 32767)); below = omega (arith, negative-is (negsuc 32767)) })
+steep-within : (j : ℕ) → j < 2 → Within sampleWidth (getD steep j (pos 0))
+steep-within zero h = between-within sampleWidth (pos 32767) (record { above = omega (arith, positive-is (pos 32767)); below = omega (arith, negative-is (pos 32767)) })
+steep-within (suc zero) h = between-within sampleWidth (negsuc 32767) (record { above = omega (arith, positive-is (negsuc 32767)); below = omega (arith, negative-is (negsuc 32767)) })
 steep-within (suc (suc j)) h = absurd (omega arith)
 
-given : (output : ℤ) → Given threeMinusThree buffer steep (output ∷ [])
+given : (output : ℤ) → Given threeMinusThreeRecord buffer steep (output ∷ [])
 given output = record {
   within-limits = record {
     are-bytes = are-bytes;
     counted = refl;
     kind = refl;
-    rows-least = omega arith;
-    rows-most = omega arith;
-    columns-least = omega arith;
-    columns-most = omega arith;
+    limits = record { rows-least = omega arith; rows-most = omega arith; columns-least = omega arith; columns-most = omega arith };
     size = refl;
   };
   long-enough = omega (arith, ap length (marked-banks .bytes-three));
@@ -58,6 +56,6 @@ given output = record {
 }
 
 -- 3 · 32,767 + 3 · 32,768
-pub steep-output : (output : ℤ) → outputsAfter threeMinusThree buffer steep (output ∷ []) ≡ pos 196605 ∷ []
+pub steep-output : (output : ℤ) → outputsAfter threeMinusThreeRecord buffer steep (output ∷ []) ≡ pos 196605 ∷ []
 unfolding matrix rowsFrom coefficientsFrom coefficientAt signedWord times
-steep-output output = claim-holds threeMinusThree buffer steep (output ∷ []) (given output) .row-times-vector
+steep-output output = claim-holds threeMinusThreeRecord buffer steep (output ∷ []) (given output) .row-times-vector

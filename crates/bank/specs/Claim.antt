@@ -1,12 +1,14 @@
 -- Demand 3, and document 01, "Netlist and board machine": the one claim about compile, read and run together. Comments in quotation
 -- marks are the demand's sentences, or document 01's.
 -- Assumes nothing.
-use Prim.Native.Nat.{ℕ, _+_, _*_, _-_, _≤_, _<_}
+use Prim.Native.Nat.{ℕ, _+_, _-_, _≤_, _<_}
 use mathlib.Core.Path.{_≡_}
 use mathlib.Core.Bool.{true}
 use mathlib.Core.List.{List, [], _∷_, _++_, map, List·Memᴰ}
 use lib.IntN.{ℤ}
 use lib.ListN.{length, getD, take}
+use Rattle.limits.specs.Limits.{positions, sampleWidth}
+use Rattle.limits.specs.Size.{SizeLimits}
 use Rattle.elimination.specs.declared.Divisor.{Divisor}
 use Rattle.elimination.specs.Rows.{matrixRows, plainCount}
 use Rattle.elimination.specs.Divisors.{Pair, occurrences, overlap}
@@ -15,7 +17,7 @@ use Rattle.elimination.specs.Steps.{Steps}
 use Rattle.layout.specs.declared.Operation.{Operation}
 use Rattle.layout.specs.declared.Output.{Output}
 use Rattle.layout.specs.Bytes.{word}
-use Rattle.layout.specs.Matrix.{rows, columns, matrix}
+use Rattle.layout.specs.Matrix.{rows, columns, matrixLength, matrix}
 use Rattle.layout.specs.Records.{Netlist}
 use Rattle.width.specs.Machine.{machine, entryAt, outputValue, times}
 use Rattle.width.specs.Width.{Within, Samples}
@@ -36,12 +38,9 @@ pub record MatrixWithinLimits (bytes : List ℕ) : Type 0 where
   pub counted : word bytes 0 ≡ length bytes
   pub kind : word bytes 2 ≡ 1
   -- "m (1 byte), n (1 byte), each 1 to 8"
-  pub rows-least : 1 ≤ rows bytes
-  pub rows-most : rows bytes ≤ 8
-  pub columns-least : 1 ≤ columns bytes
-  pub columns-most : columns bytes ≤ 8
+  pub limits : SizeLimits (rows bytes) (columns bytes)
   -- "Length 6 + 2 times m times n. Every coefficient is allowed."
-  pub size : length bytes ≡ 6 + 2 * rows bytes * columns bytes
+  pub size : length bytes ≡ matrixLength (rows bytes) (columns bytes)
 
 pub record Given (matrixBytes buffer : List ℕ) (samples outputs : List ℤ) : Type 0 where
   -- "for every matrix within the limits"
@@ -49,7 +48,7 @@ pub record Given (matrixBytes buffer : List ℕ) (samples outputs : List ℤ) : 
   -- "every lent buffer long enough for its netlist", whatever it held
   pub long-enough : length (compiledBytes matrixBytes) ≤ length buffer
   -- "and every vector of 16-bit samples, however steep"; "Run is lent the vector as its n samples"
-  pub vector : Samples 16 (columns matrixBytes) samples
+  pub vector : Samples sampleWidth (columns matrixBytes) samples
   -- "and m outputs, whatever the outputs held"
   pub one-per-row : length outputs ≡ rows matrixBytes
 
@@ -96,8 +95,8 @@ pub record Claim (matrixBytes buffer : List ℕ) (samples outputs : List ℤ) (a
       → Within (o .width) (outputValue (machine samples (netlist .operations)) o)
   -- the elimination that is spoken of below: document 01's, of this matrix, whose digits have 16 positions; compile reports its counts
   pub elimination : Eliminated
-  pub by-the-rules : elimination ≡ matrixElimination 16 (columns matrixBytes) (matrix matrixBytes)
-  pub plain-reported : answers .compile .plain ≡ plainCount (matrixRows 16 (matrix matrixBytes))
+  pub by-the-rules : elimination ≡ matrixElimination positions (columns matrixBytes) (matrix matrixBytes)
+  pub plain-reported : answers .compile .plain ≡ plainCount (matrixRows positions (matrix matrixBytes))
   pub divisors-reported : answers .compile .divisors ≡ length (elimination .divisors)
   pub replacements-reported : answers .compile .replacements ≡ elimination .replacements
   -- "The operations in those bytes are exactly as many as plain count plus divisors minus replacements"; and once more without minus,
@@ -117,13 +116,13 @@ pub record Claim (matrixBytes buffer : List ℕ) (samples outputs : List ℤ) (a
   -- remaining row its chain, each with its width; and the outputs
   pub very-operations :
       let os = operationsOf (columns matrixBytes) elimination in
-      netlist .operations ≡ withWidths 16 (columns matrixBytes) os (columns matrixBytes) os
+      netlist .operations ≡ withWidths sampleWidth (columns matrixBytes) os (columns matrixBytes) os
   pub very-outputs :
       let os = operationsOf (columns matrixBytes) elimination in
-      netlist .outputs ≡ map (outputWithWidth 16 (columns matrixBytes) os) (outputsOf (columns matrixBytes) elimination)
+      netlist .outputs ≡ map (outputWithWidth sampleWidth (columns matrixBytes) os) (outputsOf (columns matrixBytes) elimination)
   -- "and replacements the pairs replaced on the way to those rows": steps from the matrix's rows to the remaining rows, whose divisors
   -- are these and whose pairs replaced number so many
-  pub way-to-those-rows : Steps (columns matrixBytes) (matrixRows 16 (matrix matrixBytes))
+  pub way-to-those-rows : Steps (columns matrixBytes) (matrixRows positions (matrix matrixBytes))
       (elimination .divisors) (elimination .replacements) (elimination .remainingRows)
 
 -- ---- what is claimed of the three calls' definitions

@@ -1,11 +1,14 @@
--- The text of list-bank from what compile answers and leaves in a buffer of 6,136 bytes.
+-- The text of list-bank from what compile answers and leaves in a buffer that suffices for every netlist.
 -- Assumes nothing.
 use Prim.Native.Nat.{ℕ, zero, suc, _+_, _*_, _≤_}
 use mathlib.Core.Path.{_≡_, refl, sym, ap, ap₂, _∙_, subst}
 use mathlib.Core.List.{List, _++_}
 use native.Mathlib.Omega.{arith}
 use lib.ListN.{length, getD, drop, length-append}
+use Rattle.limits.specs.Limits.{maxOperations}
 use Rattle.layout.specs.Matrix.{matrixRefusal, rows, columns}
+use Rattle.layout.specs.Records.{headLength}
+use Rattle.layout.specs.Places.{outputPlace, enoughBytes}
 use Rattle.layout.proofs.LittleEndian.{AreBytes}
 use Rattle.layout.proofs.MatrixRefusal.{AcceptedMatrix, accepted-matrix}
 use Rattle.compilation.specs.declared.CompileAnswer.{CompileAnswer}
@@ -39,7 +42,7 @@ unfolding bankText
 accepted-text bytes e = sym (rw (e, bankText))
 
 module _ (bytes : List ℕ) (all : AreBytes bytes) (old after : List ℕ) (answer : CompileAnswer)
-    (room : 6136 ≡ length old) (answered : answer ≡ compileAnswer bytes (length old)) (left : after ≡ compileBuffer bytes old) where
+    (room : enoughBytes ≡ length old) (answered : answer ≡ compileAnswer bytes (length old)) (left : after ≡ compileBuffer bytes old) where
   takes : matrixRefusal bytes ≡ 0 → answer ≡ compileAccepted bytes
   takes e = answered ∙ enough-room bytes all (length old) e (omega arith)
 
@@ -67,8 +70,8 @@ module _ (bytes : List ℕ) (all : AreBytes bytes) (old after : List ℕ) (answe
     pub limits : AcceptedMatrix bytes
     limits = accepted-matrix bytes taken
 
-    pub few : answer .operations ≤ 504
-    few = subst (λ (a : CompileAnswer). a .operations ≤ 504) (sym (takes taken)) (compiled-operations bytes all taken)
+    pub few : answer .operations ≤ maxOperations
+    few = subst (λ (a : CompileAnswer). a .operations ≤ maxOperations) (sym (takes taken)) (compiled-operations bytes all taken)
 
     behind : List ℕ
     behind = drop (length (compiledBytes bytes)) old
@@ -78,7 +81,7 @@ module _ (bytes : List ℕ) (all : AreBytes bytes) (old after : List ℕ) (answe
     written = left ∙ buffer-accepted bytes old taken (omega (arith, compiled-length bytes all taken))
 
     -- the head, the operations and the outputs stand in the buffer
-    pub long : 8 + 12 * answer .operations + 9 * rows bytes ≤ length after
+    pub long : outputPlace headLength (answer .operations) (rows bytes) ≤ length after
     long = omega (
       arith,
       ap length written ∙ length-append (compiledBytes bytes) behind,

@@ -2,10 +2,12 @@
 -- Assumes nothing.
 use Prim.Native.Nat.{ℕ, zero, suc}
 use mathlib.Core.List.{List}
+use Rattle.limits.specs.Limits.{maxRows, maxOperations}
 use Rattle.layout.specs.Matrix.{matrixRefusal, rows, columns}
 use Rattle.compilation.specs.Compile.{compileAccepted, compiledNetlist}
 use Rattle.listing.specs.declared.Counts.{Counts}
 use Rattle.listing.specs.Listing.{listing, refusedLine}
+use Rattle.listing.specs.Records.{room}
 use Rattle.listing.specs.Wrote.{textIn}
 
 -- the first line's numbers: the matrix's, and those that compile reports
@@ -29,6 +31,10 @@ bankText bytes =
       | zero ↦ listing (countsOf bytes) (compiledNetlist bytes .operations) (compiledNetlist bytes .outputs)
     ]
 
+-- bytes that hold the text of every compiled netlist
+abbrev pub longestBankText : ℕ
+longestBankText = room maxOperations maxRows
+
 -- nothing where the lent text is shorter than the longest text
 abbrev pub bankTextIn : ℕ → List ℕ → List ℕ
-bankTextIn lent bytes = textIn 24598 lent (bankText bytes)
+bankTextIn lent bytes = textIn longestBankText lent (bankText bytes)

@@ -1,20 +1,15 @@
 -- Document 01, "Marked banks", as one table: the banks of `compiler`, and what list-bank prints for row 3, −3.
 -- Assumes nothing.
 use mathlib.Core.Path.{_≡_}
-use mathlib.Core.List.{List, [], _∷_}
-use Prim.Native.Nat.{ℕ}
-use Rattle.compilation.specs.Marked.{MarkedBanks}
+use mathlib.Core.List.{[]}
+use Rattle.compilation.specs.Marked.{MarkedBanks, threeMinusThreeRecord}
 use Rattle.listing.specs.Listing.{ascii}
 use Rattle.listing.specs.Marked.{MarkedListing}
 use Rattle.bank_text.specs.BankText.{bankText}
 
--- 0A 00 01 00 01 02 03 00 FD FF (row 3, −3)
-abbrev pub threeMinusThree : List ℕ
-threeMinusThree = 0x0A ∷ 0x00 ∷ 0x01 ∷ 0x00 ∷ 0x01 ∷ 0x02 ∷ 0x03 ∷ 0x00 ∷ 0xFD ∷ 0xFF ∷ []
-
 pub record MarkedTable : Type 0 where
   pub banks : MarkedBanks
   pub lines : MarkedListing
-  pub printed : bankText threeMinusThree
+  pub printed : bankText threeMinusThreeRecord
       ≡ ascii "inputs 2 outputs 1 operations 2 plain 3 divisors 1 replacements 2 depth 2\n2 = 0<<0 - 1<<0 width 17\n3 = 2<<0 - 2<<2 width 19\nrow 0 = -3<<0 width 19\n"
   pub printed-refusal : bankText [] ≡ ascii "refused 1 at 0\n"

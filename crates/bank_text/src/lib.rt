@@ -1,25 +1,33 @@
-// Document 01, "Marked banks": the text of list-bank for a matrix record. Rests on compiler and listing.
+// Document 01, "Marked banks": the text of list-bank for a matrix record. Rests on limits, layout, compiler and listing.
+use layout::places::ENOUGH_BYTES;
+use limits::MAX_OPERATIONS;
+use limits::MAX_ROWS;
 use listing::Counts;
+use listing::LONGEST_COUNTS_LINE;
+use listing::LONGEST_OPERATION_LINE;
+use listing::LONGEST_OUTPUT_LINE;
 ghost use mathlib.Core.Path.{_≡_};
 ghost use Prim.Native.Nat.{_≤_};
 ghost use lib.ListN.{length};
+ghost use Rattle.layout.specs.Places.{enoughBytes};
 ghost use Rattle.listing.specs.Wrote.{Wrote};
-ghost use Rattle.bank_text.specs.BankText.{bankText, bankTextIn};
+ghost use Rattle.bank_text.specs.BankText.{bankText, longestBankText, bankTextIn};
 
-// The longest text: 504 operations and 8 outputs.
-pub const ROOM: usize = 24598;
+// The longest text: that of the most operations and rows.
+pub const ROOM: usize = LONGEST_COUNTS_LINE
+    + LONGEST_OPERATION_LINE * MAX_OPERATIONS
+    + LONGEST_OUTPUT_LINE * MAX_ROWS;
 
-// "6,136 bytes always suffice."
-fn no_netlist() -> [u8; 6136]
-    ensures { λ r. ⌜ 6136 ≡ length r ⌝ }
+fn no_netlist() -> [u8; ENOUGH_BYTES]
+    ensures { λ r. ⌜ enoughBytes ≡ length r ⌝ }
 {
-    [0; 6136]
+    [0; ENOUGH_BYTES]
 }
 
 fn write_text(matrix: &[u8], text: &mut [u8]) -> usize
-    requires { ⌜ 24598 ≤ length (now text) ⌝ }
+    requires { ⌜ longestBankText ≤ length (now text) ⌝ }
     ensures { λ r. ⌜ Wrote (now (text .entry)) (now (text .exit)) r (bankText (now (matrix .entry))) ⌝ }
-    ensures { λ r. ⌜ r ≤ 24598 ⌝ }
+    ensures { λ r. ⌜ r ≤ longestBankText ⌝ }
 {
     let mut netlist = no_netlist();
     let answer = compiler::compile(matrix, &mut netlist);
@@ -41,7 +49,7 @@ fn write_text(matrix: &[u8], text: &mut [u8]) -> usize
 // Writes the text at the start of the lent bytes and answers how long it is; nothing where they are too few.
 pub fn write_bank(matrix: &[u8], text: &mut [u8]) -> usize
     ensures { λ r. ⌜ Wrote (now (text .entry)) (now (text .exit)) r (bankTextIn (length (now (text .entry))) (now (matrix .entry))) ⌝ }
-    ensures { λ r. ⌜ r ≤ 24598 ⌝ }
+    ensures { λ r. ⌜ r ≤ longestBankText ⌝ }
 {
     if text.len() < ROOM {
         return 0;

@@ -11,6 +11,7 @@ use lib.Dec.{eqb}
 use lib.IntN.{ℤ}
 use lib.ListN.{length}
 use borrow.Author.Tests.{eq-eqb, ne-eqb, eqb-true, eqb-false}
+use Rattle.limits.specs.Limits.{maxRows}
 use Rattle.layout.specs.Records.{Netlist}
 use Rattle.layout.proofs.LittleEndian.{AreBytes}
 use Rattle.reading.specs.Read.{refused, accepted, readNetlist}
@@ -22,7 +23,7 @@ use Rattle.reading.proofs.TestLaws.{Decided}
 use Rattle.reading.proofs.ReadAccepts.{reads-netlist}
 use Rattle.reading.proofs.ReadTests.{read-decided}
 use Rattle.checker.proofs.BoardLaws.{counts-agree}
-use Rattle.ffi.specs.OutputBytes.{integerBytes, outputCount, runBytes, Lent}
+use Rattle.ffi.specs.OutputBytes.{integerBytes, outputCount, runBytes, LentOutputs}
 
 -- ---- how many outputs are lent
 
@@ -35,14 +36,14 @@ module _ (bytes : List ℕ) where
   unfolding outputCount
   all-of-whole h = rw (eq-eqb (length bytes % 8) 0 h)
 
-  pub lent-part : (length bytes % 8 ≡ 0 → ⊥) → Lent bytes 0
+  pub lent-part : (length bytes % 8 ≡ 0 → ⊥) → LentOutputs bytes 0
   lent-part h = record { few = omega arith; all-or-none = inl (sym (none-of-part h)) }
 
   module _ (h : length bytes % 8 ≡ 0) where
-    pub lent-more : 8 < length bytes / 8 → Lent bytes 0
+    pub lent-more : maxRows < length bytes / 8 → LentOutputs bytes 0
     lent-more l = record { few = omega arith; all-or-none = inr (refl, omega (arith, all-of-whole h)) }
 
-    pub lent-all : length bytes / 8 ≤ 8 → Lent bytes (length bytes / 8)
+    pub lent-all : length bytes / 8 ≤ maxRows → LentOutputs bytes (length bytes / 8)
     lent-all l = record { few = l; all-or-none = inl (sym (all-of-whole h)) }
 
   -- some output is held only by a whole number of outputs
@@ -95,20 +96,20 @@ module _ (b : List ℕ) (samples : List ℤ) (bytes : List ℕ) where
       bytes-filled m = rw (e, runBytes) (rw n (rw m))
 
       -- run and the bytes agree on whether the outputs are m
-      module _ (count : ℕ) (limits : HeadLimits (net .head)) (lent : Lent bytes count) where
+      module _ (count : ℕ) (limits : HeadLimits (net .head)) (lent : LentOutputs bytes count) where
         not-m : (outputCount bytes ≡ net .head .m → ⊥) → count ≡ net .head .m → ⊥
         not-m other c = go (lent .all-or-none)
           where
-            go : (count ≡ outputCount bytes) ⊎ ((count ≡ 0) × (8 < outputCount bytes)) → ⊥
+            go : (count ≡ outputCount bytes) ⊎ ((count ≡ 0) × (maxRows < outputCount bytes)) → ⊥
             go (inl same) = other (sym same ∙ c)
-            go (inr none) = omega (arith, c, none .0, limits .rows-least)
+            go (inr none) = omega (arith, c, none .0, limits .limits .rows-least)
 
         all-m : outputCount bytes ≡ net .head .m → count ≡ net .head .m
         all-m m = go (lent .all-or-none)
           where
-            go : (count ≡ outputCount bytes) ⊎ ((count ≡ 0) × (8 < outputCount bytes)) → count ≡ net .head .m
+            go : (count ≡ outputCount bytes) ⊎ ((count ≡ 0) × (maxRows < outputCount bytes)) → count ≡ net .head .m
             go (inl same) = same ∙ m
-            go (inr none) = absurd (omega (arith, m, none .1, limits .rows-most))
+            go (inr none) = absurd (omega (arith, m, none .1, limits .limits .rows-most))
 
         other-count : eqb (outputCount bytes) (net .head .m) ≡ false → (answer count ≡ answer (outputCount bytes)) × Left (answer count) count
         other-count m =
@@ -120,7 +121,7 @@ module _ (b : List ℕ) (samples : List ℤ) (bytes : List ℕ) where
             let all : outputCount bytes ≡ net .head .m = eqb-true (outputCount bytes) (net .head .m) m in
             let c : count ≡ net .head .m = all-m all in
             let a : answer count ≡ ran 0 0 = counts-same count (eq-eqb count (net .head .m) c) in
-            let size : length bytes ≡ 8 * count = omega (arith, whole bytes (omega (arith, all, limits .rows-least)), all, c) in (
+            let size : length bytes ≡ 8 * count = omega (arith, whole bytes (omega (arith, all, limits .limits .rows-least)), all, c) in (
               a ∙ sym (counts-same (outputCount bytes) m),
               inr (
                 ap (λ (x : RunAnswer). x .refusal) a,
@@ -132,7 +133,7 @@ module _ (b : List ℕ) (samples : List ℤ) (bytes : List ℕ) where
               ),
             )
 
-  run-left : AreBytes b → (count : ℕ) → Lent bytes count → (answer count ≡ answer (outputCount bytes)) × Left (answer count) count
+  run-left : AreBytes b → (count : ℕ) → LentOutputs bytes count → (answer count ≡ answer (outputCount bytes)) × Left (answer count) count
   run-left all count lent = go (read-decided b)
     where
       kept : (r place : ℕ) → 0 < r → ((k : ℕ) → (answer k ≡ ran r place) × (bytes ≡ runBytes b samples bytes))
@@ -150,7 +151,7 @@ module _ (b : List ℕ) (samples : List ℤ) (bytes : List ℕ) where
       go (inr f) = kept (f .0) (f .1) (f .2) (declined (f .0) (f .1) (f .2) (f .3))
 
   -- run answers as if it were lent all outputs; a refusal leaves the bytes, and an accepted run fills them
-  module _ (all : AreBytes b) (count : ℕ) (lent : Lent bytes count) where
+  module _ (all : AreBytes b) (count : ℕ) (lent : LentOutputs bytes count) where
     pub lent-answer : answer count ≡ answer (outputCount bytes)
     lent-answer = run-left all count lent .0
 

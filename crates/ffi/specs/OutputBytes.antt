@@ -8,6 +8,7 @@ use mathlib.Core.List.{List, [], _∷_, flatMap}
 use lib.Dec.{eqb}
 use lib.IntN.{ℤ, pos, negsuc}
 use lib.ListN.{length}
+use Rattle.limits.specs.Limits.{maxRows}
 use Rattle.reading.specs.Read.{refused, accepted, readNetlist}
 use Rattle.reading.specs.Run.{netlistOutputs}
 
@@ -40,7 +41,7 @@ runBytes netlist samples bytes =
           ]
     ]
 
--- so many outputs are lent to run: all, or none where they are more than 8
-pub record Lent (bytes : List ℕ) (count : ℕ) : Type 0 where
-  pub few : count ≤ 8
-  pub all-or-none : (count ≡ outputCount bytes) ⊎ ((count ≡ 0) × (8 < outputCount bytes))
+-- so many outputs are lent to run: all, or none where they are more than any netlist's rows
+pub record LentOutputs (bytes : List ℕ) (count : ℕ) : Type 0 where
+  pub few : count ≤ maxRows
+  pub all-or-none : (count ≡ outputCount bytes) ⊎ ((count ≡ 0) × (maxRows < outputCount bytes))

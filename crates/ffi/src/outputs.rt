@@ -1,14 +1,16 @@
 // Document 01, "Reading, checking, running": run, with samples and outputs as bytes: outputs have 8 bytes each, little-endian two's
-// complement. Rests on samples, width and checker.
+// complement. Rests on limits, samples, width and checker.
+use limits::MAX_ROWS;
 use reading::RunAnswer;
 ghost use mathlib.Core.Path.{_≡_};
 ghost use mathlib.Core.List.{flatMap};
 ghost use Prim.Native.Nat.{_+_, _*_, _≤_};
 ghost use lib.ListN.{length};
 ghost use lib.Seq.{sets};
+ghost use Rattle.limits.specs.Limits.{maxRows};
 ghost use Rattle.reading.specs.Run.{runAnswer};
 ghost use Rattle.samples.specs.Samples.{samplesOf};
-ghost use Rattle.ffi.specs.OutputBytes.{twosComplement, integerBytes, outputCount, runBytes, Lent};
+ghost use Rattle.ffi.specs.OutputBytes.{twosComplement, integerBytes, outputCount, runBytes, LentOutputs};
 
 // Two's complement of 64 bits.
 fn twos_complement(y: i64) -> u64
@@ -35,7 +37,7 @@ fn write_output(bytes: &mut [u8], place: usize, y: i64)
 
 // The bytes of all outputs, one after another.
 fn write_outputs(bytes: &mut [u8], outputs: &[i64])
-    requires { ⌜ (length (now outputs) ≤ 8) × (length (now bytes) ≡ 8 * length (now outputs)) ⌝ }
+    requires { ⌜ (length (now outputs) ≤ maxRows) × (length (now bytes) ≡ 8 * length (now outputs)) ⌝ }
     ensures { λ _. ⌜ now (bytes .exit) ≡ flatMap integerBytes (now (outputs .entry)) ⌝ }
 {
     let count = outputs.len();
@@ -45,15 +47,15 @@ fn write_outputs(bytes: &mut [u8], outputs: &[i64])
     }
 }
 
-// How many outputs to lend to run: all, or none where they are more than 8, since no netlist has so many.
+// How many outputs to lend to run: all, or none where they are more than any netlist's rows.
 fn lent_count(bytes: &[u8]) -> usize
-    ensures { λ r. ⌜ Lent (now (bytes .entry)) r ⌝ }
+    ensures { λ r. ⌜ LentOutputs (now (bytes .entry)) r ⌝ }
 {
     if bytes.len() % 8 != 0 {
         return 0;
     }
     let count = bytes.len() / 8;
-    if count > 8 {
+    if count > MAX_ROWS {
         return 0;
     }
     count
@@ -61,7 +63,7 @@ fn lent_count(bytes: &[u8]) -> usize
 
 // Run, with outputs to lend. Nothing is written to the bytes before run has accepted.
 fn run_with(netlist: &[u8], samples: &[u8], bytes: &mut [u8], outputs: &mut [i64]) -> RunAnswer
-    requires { ⌜ Lent (now bytes) (length (now outputs)) ⌝ }
+    requires { ⌜ LentOutputs (now bytes) (length (now outputs)) ⌝ }
     ensures { λ r. ⌜ r ≡ runAnswer (now (netlist .entry)) (length (samplesOf (now (samples .entry)))) (outputCount (now (bytes .entry))) ⌝ }
     ensures { λ _. ⌜ now (bytes .exit) ≡ runBytes (now (netlist .entry)) (samplesOf (now (samples .entry))) (now (bytes .entry)) ⌝ }
 {
@@ -78,6 +80,6 @@ pub(crate) fn run_to_bytes(netlist: &[u8], samples: &[u8], bytes: &mut [u8]) -> 
     ensures { λ _. ⌜ now (bytes .exit) ≡ runBytes (now (netlist .entry)) (samplesOf (now (samples .entry))) (now (bytes .entry)) ⌝ }
 {
     let count = lent_count(bytes);
-    let mut outputs: [i64; 8] = [0; 8];
+    let mut outputs: [i64; MAX_ROWS] = [0; MAX_ROWS];
     run_with(netlist, samples, bytes, &mut outputs[..count])
 }

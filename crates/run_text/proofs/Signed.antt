@@ -16,7 +16,7 @@ use Rattle.reading.proofs.ReadAccepts.{flat-snoc}
 use Rattle.listing.specs.Decimal.{number}
 use Rattle.listing.specs.Listing.{ascii}
 use Rattle.listing.proofs.Decimal.{length-number}
-use Rattle.run_text.specs.RunText.{signedNumber, outputLine, outputLines}
+use Rattle.run_text.specs.RunText.{signedNumber, valueLine, valueLines}
 
 pub signed-positive : (z : ℤ) → pos 0 ≤ℤ z → number (positivePart z) ≡ signedNumber z
 signed-positive (pos k) h = refl
@@ -37,8 +37,8 @@ negative-digits (negsuc k) f = length-number 18 (suc k) (omega (arith, f .sfits)
 
 -- one line more
 pub next-line : (outputs : List ℤ) (i : ℕ) (z : ℤ) → i < length outputs → z ≡ getD outputs i (pos 0)
-    → outputLines (take i outputs) ++ outputLine z ≡ outputLines (take (suc i) outputs)
+    → valueLines (take i outputs) ++ valueLine z ≡ valueLines (take (suc i) outputs)
 next-line outputs i z h e =
-    ap (λ (y : ℤ). outputLines (take i outputs) ++ outputLine y) e
-    ∙ sym (flat-snoc outputLine (take i outputs) (getD outputs i (pos 0)))
-    ∙ ap outputLines (sym (take-suc outputs i (pos 0) h))
+    ap (λ (y : ℤ). valueLines (take i outputs) ++ valueLine y) e
+    ∙ sym (flat-snoc valueLine (take i outputs) (getD outputs i (pos 0)))
+    ∙ ap valueLines (sym (take-suc outputs i (pos 0) h))

@@ -6,24 +6,25 @@ use mathlib.Core.List.{List}
 use native.Mathlib.Omega.{arith}
 use lib.IntN.{ℤ, pos}
 use lib.ListN.{length, replicate}
+use Rattle.limits.specs.Limits.{maxRows}
 use Rattle.layout.specs.Records.{Netlist}
 use Rattle.layout.proofs.LittleEndian.{AreBytes}
 use Rattle.reading.specs.declared.RunAnswer.{RunAnswer}
-use Rattle.reading.specs.Read.{Reading, refused, accepted, readNetlist, answerOf, readAnswer}
+use Rattle.reading.specs.Read.{Reading, refused, accepted, readNetlist, readAnswerOf, readAnswer}
 use Rattle.reading.specs.Run.{runAnswer, runOutputs}
 use Rattle.reading.proofs.ReadAccepts.{reads-netlist}
 use Rattle.samples.specs.Samples.{samplesOf}
 use Rattle.listing.specs.Listing.{refusedLine}
-use Rattle.run_text.specs.RunText.{outputLines, rowsRead, runText}
+use Rattle.run_text.specs.RunText.{valueLines, rowsRead, runText}
 
 -- read says that there are at most 8 rows
-pub rows-few : (b : List ℕ) → AreBytes b → rowsRead b ≤ 8
+pub rows-few : (b : List ℕ) → AreBytes b → rowsRead b ≤ maxRows
 unfolding readAnswer
 rows-few b all = go (readNetlist b) refl
   where
-    go : (x : Reading Netlist) → readNetlist b ≡ x → answerOf (readNetlist b) .m ≤ 8
+    go : (x : Reading Netlist) → readNetlist b ≡ x → readAnswerOf (readNetlist b) .m ≤ maxRows
     go (refused r place) e = rw e (omega arith)
-    go (accepted net) e = rw e (reads-netlist b all net .0 e .netlist .head .rows-most)
+    go (accepted net) e = rw e (reads-netlist b all net .0 e .netlist .head .limits .rows-most)
 
 module _ (netlist samples : List ℕ) where
   abbrev answered : RunAnswer
@@ -36,7 +37,7 @@ module _ (netlist samples : List ℕ) where
   unfolding runText
   refused-text r e = sym (rw (e, runText))
 
-  accepted-text : answered .refusal ≡ 0 → outputLines outputs ≡ runText netlist samples
+  accepted-text : answered .refusal ≡ 0 → valueLines outputs ≡ runText netlist samples
   unfolding runText
   accepted-text e = sym (rw (e, runText))
 
@@ -51,5 +52,5 @@ module _ (netlist samples : List ℕ) where
             ∙ ap (λ (k : ℕ). refusedLine k (answered .place)) e
             ∙ refused-text r e
 
-    pub text-accepted : answer .refusal ≡ 0 → outputLines outputs ≡ runText netlist samples
+    pub text-accepted : answer .refusal ≡ 0 → valueLines outputs ≡ runText netlist samples
     text-accepted e = accepted-text (sym (ap (λ (a : RunAnswer). a .refusal) is) ∙ e)

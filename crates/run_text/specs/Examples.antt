@@ -9,8 +9,8 @@ use Rattle.listing.specs.Marked.{operations, outputs}
 use Rattle.run_text.specs.RunText.{runText}
 
 -- document 01's netlist for row 3, −3
-abbrev pub threeMinusThree : List ℕ
-threeMinusThree =
+abbrev pub exampleNetlist : List ℕ
+exampleNetlist =
     netlistBytes (record {
       head = record { m = 1; n = 2; operations = 2 };
       operations = operations;
@@ -20,9 +20,9 @@ threeMinusThree =
 
 pub record RunExamples : Type 0 where
   -- 32,767 and −32,768, the steepest vector: 3 · 32,767 + 3 · 32,768
-  pub steep : runText threeMinusThree (0xFF ∷ 0x7F ∷ 0x00 ∷ 0x80 ∷ []) ≡ ascii "196605\n"
-  pub steep-down : runText threeMinusThree (0x00 ∷ 0x80 ∷ 0xFF ∷ 0x7F ∷ []) ≡ ascii "-196605\n"
+  pub steep : runText exampleNetlist (0xFF ∷ 0x7F ∷ 0x00 ∷ 0x80 ∷ []) ≡ ascii "196605\n"
+  pub steep-down : runText exampleNetlist (0x00 ∷ 0x80 ∷ 0xFF ∷ 0x7F ∷ []) ≡ ascii "-196605\n"
   -- one sample, and an odd number of bytes
-  pub one-sample : runText threeMinusThree (0xFF ∷ 0x7F ∷ []) ≡ ascii "refused 15 at 0\n"
-  pub odd : runText threeMinusThree (0xFF ∷ 0x7F ∷ 0x00 ∷ []) ≡ ascii "refused 15 at 0\n"
+  pub one-sample : runText exampleNetlist (0xFF ∷ 0x7F ∷ []) ≡ ascii "refused 15 at 0\n"
+  pub odd : runText exampleNetlist (0xFF ∷ 0x7F ∷ 0x00 ∷ []) ≡ ascii "refused 15 at 0\n"
   pub no-netlist : runText [] (0xFF ∷ 0x7F ∷ []) ≡ ascii "refused 7 at 0\n"

@@ -1,9 +1,10 @@
 -- What the program run-bank prints for a netlist and a vector of samples, both given as bytes. Every line ends in a line feed.
 -- Assumes nothing.
-use Prim.Native.Nat.{ℕ, zero, suc}
+use Prim.Native.Nat.{ℕ, zero, suc, _*_}
 use mathlib.Core.List.{List, _++_, flatMap}
 use lib.IntN.{ℤ, pos, negsuc}
 use lib.ListN.{length, replicate}
+use Rattle.limits.specs.Limits.{maxRows}
 use Rattle.reading.specs.Read.{readAnswer}
 use Rattle.reading.specs.Run.{runAnswer, runOutputs}
 use Rattle.samples.specs.Samples.{samplesOf}
@@ -16,12 +17,12 @@ abbrev pub signedNumber : ℤ → List ℕ
 signedNumber (pos k) = number k
 signedNumber (negsuc k) = ascii "-" ++ number (suc k)
 
-abbrev pub outputLine : ℤ → List ℕ
-outputLine z = signedNumber z ++ ascii "\n"
+abbrev pub valueLine : ℤ → List ℕ
+valueLine z = signedNumber z ++ ascii "\n"
 
 -- one output a line, in their order
-abbrev pub outputLines : List ℤ → List ℕ
-outputLines outputs = flatMap outputLine outputs
+abbrev pub valueLines : List ℤ → List ℕ
+valueLines outputs = flatMap valueLine outputs
 
 -- as many outputs are lent as read says that there are rows
 abbrev pub rowsRead : List ℕ → ℕ
@@ -34,9 +35,17 @@ runText netlist samples =
     let answer = runAnswer netlist (length xs) (rowsRead netlist) in
     elim (answer .refusal) [
       | suc r ↦ refusedLine (suc r) (answer .place)
-      | zero ↦ outputLines (runOutputs netlist xs (replicate (rowsRead netlist) (pos 0)))
+      | zero ↦ valueLines (runOutputs netlist xs (replicate (rowsRead netlist) (pos 0)))
     ]
+
+-- the longest line: a sign, 19 digits and a line feed
+abbrev pub longestLine : ℕ
+longestLine = 21
+
+-- bytes that hold the text: a line for each row
+abbrev pub longestRunText : ℕ
+longestRunText = longestLine * maxRows
 
 -- nothing where the lent text is shorter than the longest text
 abbrev pub runTextIn : ℕ → List ℕ → List ℕ → List ℕ
-runTextIn lent netlist samples = textIn 168 lent (runText netlist samples)
+runTextIn lent netlist samples = textIn longestRunText lent (runText netlist samples)

@@ -9,9 +9,10 @@ use lib.IntN.{ℤ}
 use lib.ListN.{length, set, take}
 use lib.Seq.{take-suc-set}
 use borrow.Author.Tests.{eq-eqb, ne-eqb}
-use Rattle.reading.specs.Tests.{firstRecords}
-use Rattle.reading.proofs.FirstRecords.{length-first}
-use Rattle.samples.specs.Samples.{sampleAt, firstSamples, samplesOf, Lent}
+use Rattle.limits.specs.Limits.{maxColumns}
+use Rattle.layout.specs.Places.{firstRecords}
+use Rattle.layout.proofs.FirstRecords.{length-first}
+use Rattle.samples.specs.Samples.{sampleAt, firstSamples, samplesOf, LentSamples}
 
 module _ (bytes : List ℕ) where
   pub none-of-odd : (length bytes % 2 ≡ 0 → ⊥) → samplesOf bytes ≡ []
@@ -22,7 +23,7 @@ module _ (bytes : List ℕ) where
   unfolding samplesOf
   all-of-even h = rw (eq-eqb (length bytes % 2) 0 h)
 
-  pub lent-of-odd : length bytes % 2 ≡ 1 → Lent bytes 0
+  pub lent-of-odd : length bytes % 2 ≡ 1 → LentSamples bytes 0
   unfolding firstRecords
   lent-of-odd h = record { few = omega arith; there = omega arith; all-or-none = inl (sym (none-of-odd (λ z. omega arith))) }
 
@@ -30,14 +31,14 @@ module _ (bytes : List ℕ) where
     even : length bytes % 2 ≡ 0
     even = omega arith
 
-    pub lent-of-more : 8 < length bytes / 2 → Lent bytes 0
+    pub lent-of-more : maxColumns < length bytes / 2 → LentSamples bytes 0
     lent-of-more l = record {
       few = omega arith;
       there = omega arith;
       all-or-none = inr (refl, omega (arith, ap length (all-of-even even), length-first (sampleAt bytes) (length bytes / 2)));
     }
 
-    pub lent-all : length bytes / 2 ≤ 8 → Lent bytes (length bytes / 2)
+    pub lent-all : length bytes / 2 ≤ maxColumns → LentSamples bytes (length bytes / 2)
     lent-all l = record { few = l; there = omega arith; all-or-none = inl (sym (all-of-even even)) }
 
   -- one sample more

@@ -8,9 +8,10 @@ use mathlib.Core.List.{List, []}
 use lib.Dec.{eqb}
 use lib.IntN.{ℤ}
 use lib.ListN.{length}
+use Rattle.limits.specs.Limits.{maxColumns}
 use Rattle.layout.specs.Bytes.{word}
 use Rattle.layout.specs.Matrix.{signedWord}
-use Rattle.reading.specs.Tests.{firstRecords}
+use Rattle.layout.specs.Places.{firstRecords}
 
 -- the sample of an index
 abbrev pub sampleAt : List ℕ → ℕ → ℤ
@@ -24,8 +25,8 @@ firstSamples bytes k = firstRecords (sampleAt bytes) k
 unfoldable pub samplesOf : List ℕ → List ℤ
 samplesOf bytes = cond (eqb (length bytes % 2) 0) (firstSamples bytes (length bytes / 2)) []
 
--- so many of them are lent to run: all, or none where they are more than 8
-pub record Lent (bytes : List ℕ) (count : ℕ) : Type 0 where
-  pub few : count ≤ 8
+-- so many of them are lent to run: all, or none where they are more than any netlist's columns
+pub record LentSamples (bytes : List ℕ) (count : ℕ) : Type 0 where
+  pub few : count ≤ maxColumns
   pub there : 2 * count ≤ length bytes
-  pub all-or-none : (firstSamples bytes count ≡ samplesOf bytes) ⊎ ((count ≡ 0) × (8 < length (samplesOf bytes)))
+  pub all-or-none : (firstSamples bytes count ≡ samplesOf bytes) ⊎ ((count ≡ 0) × (maxColumns < length (samplesOf bytes)))

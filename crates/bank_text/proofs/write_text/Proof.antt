@@ -5,6 +5,9 @@ use mathlib.Core.List.{List}
 use native.Mathlib.Omega.{arith}
 use lib.ListN.{length}
 use borrow.Author.Needs.{needs}
+use Rattle.limits.specs.Limits.{maxOperations}
+use Rattle.layout.specs.Records.{headLength}
+use Rattle.layout.specs.Places.{outputPlace}
 use Rattle.layout.specs.Matrix.{rows}
 use Rattle.layout.proofs.LittleEndian.{AreBytes}
 use Rattle.layout.proofs.MatrixRefusal.{AcceptedMatrix}
@@ -37,10 +40,10 @@ module _ (c : tie.After-compile) where
     within : AcceptedMatrix bytes
     within = limits bytes all _ _ (c .compile .result) (c .before .before .no-netlist .ensures) (c .compile .ensures .0) (c .compile .ensures .1) e
 
-    enough : 8 + 12 * c .compile .result .operations + 9 * rows bytes ≤ length (c .compile .last .1 .0)
+    enough : outputPlace headLength (c .compile .result .operations) (rows bytes) ≤ length (c .compile .last .1 .0)
     enough = long bytes all _ _ (c .compile .result) (c .before .before .no-netlist .ensures) (c .compile .ensures .0) (c .compile .ensures .1) e
 
-    operations : c .compile .result .operations ≤ 504
+    operations : c .compile .result .operations ≤ maxOperations
     operations = few bytes all _ _ (c .compile .result) (c .before .before .no-netlist .ensures) (c .compile .ensures .0) (c .compile .ensures .1) e
 
 no-netlist-requires : tie.Need-no-netlist-requires
@@ -84,7 +87,7 @@ write-listing-requires c κs =
     let e = c .before .before .before .before .if1 .left in
     let l = within k e in
     let f = operations k e in
-    (omega (arith, l .columns-most, f), (enough k e, omega (arith, l .rows-most, f)))
+    (omega (arith, l .limits .columns-most, f), (enough k e, omega (arith, l .limits .rows-most, f)))
 
 same-length-2 : tie.Need-same-length-2
 same-length-2 c = search needs
@@ -94,7 +97,7 @@ returns-2 c =
     let k = c .before .before .before .before .before .before .before .before .before .before in
     let e = c .before .before .before .before .before .before .before .if1 .left in
     let w = c .before .before .write-listing .ensures in
-    (wrote-as (netlist-text k e) (w .0), omega (arith, w .1, within k e .rows-most, operations k e))
+    (wrote-as (netlist-text k e) (w .0), omega (arith, w .1, within k e .limits .rows-most, operations k e))
 
 pub write-text-spec : {M : Type 1} → statement M
 write-text-spec =

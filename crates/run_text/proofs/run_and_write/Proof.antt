@@ -8,7 +8,7 @@ use lib.ListN.{length, replicate, length-replicate}
 use Rattle.reading.specs.Run.{runAnswer, runOutputs}
 use Rattle.samples.specs.Samples.{samplesOf}
 use Rattle.listing.proofs.Wrote.{wrote-as}
-use Rattle.run_text.specs.RunText.{outputLines, rowsRead}
+use Rattle.run_text.specs.RunText.{valueLines, rowsRead}
 use Rattle.run_text.proofs.Texts.{text-refused, text-accepted}
 use borrow.Author.Needs.{needs}
 use Rattle.run_text.proofs.run_and_write.Statement.{statement}
@@ -67,7 +67,7 @@ returns-2 c =
     let w = c .before .before .write-outputs .ensures in
     let e = c .before .before .before .before .before in
     let r = e .before .before .before in (
-      wrote-as (ap outputLines (filled r) ∙ text-accepted (netlist r) (samples r) (r .run-on-bytes .result) (answered r) (e .if1 .left)) (w .0),
+      wrote-as (ap valueLines (filled r) ∙ text-accepted (netlist r) (samples r) (r .run-on-bytes .result) (answered r) (e .if1 .left)) (w .0),
       omega (arith, w .1),
     )
 

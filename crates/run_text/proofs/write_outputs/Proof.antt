@@ -10,14 +10,14 @@ use mir.Syntax.{w64}
 use Rattle.integers.proofs.Held.{is, held}
 use Rattle.listing.specs.Wrote.{Wrote}
 use Rattle.listing.proofs.Wrote.{wrote-nothing, wrote-more, wrote-as}
-use Rattle.run_text.specs.RunText.{outputLines}
+use Rattle.run_text.specs.RunText.{longestLine, valueLines}
 use Rattle.run_text.proofs.Signed.{next-line}
 use Rattle.run_text.proofs.write_outputs.Statement.{statement}
 use Rattle.run_text.proofs.write_outputs.Tie as tie
 
 abbrev Inv-loop : tie.InvT-loop
 Inv-loop outputs text₀ at₀ count i₀ text at i =
-    Wrote text₀ text at (outputLines (take i outputs)) × ((i ≤ length outputs) × ((at ≤ 21 * i) × (length text ≡ length text₀)))
+    Wrote text₀ text at (valueLines (take i outputs)) × ((i ≤ length outputs) × ((at ≤ longestLine * i) × (length text ≡ length text₀)))
 
 abbrev μ-loop : tie.MeasureT-loop
 μ-loop outputs text₀ at₀ count i₀ text at i = length outputs - i
@@ -73,7 +73,7 @@ returns c =
     let l = c .before in
     let outputs = l .before .before .args .outputs .now in
     let all : l .loop .i ≡ length outputs = omega arith in
-    (wrote-as (ap (λ (k : ℕ). outputLines (take k outputs)) all ∙ ap outputLines (take-length outputs)) (l .loop .inv .0), omega arith)
+    (wrote-as (ap (λ (k : ℕ). valueLines (take k outputs)) all ∙ ap valueLines (take-length outputs)) (l .loop .inv .0), omega arith)
 
 pub write-outputs-spec : {M : Type 1} → statement M
 write-outputs-spec =

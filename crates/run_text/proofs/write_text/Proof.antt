@@ -5,6 +5,7 @@ use mathlib.Core.List.{List}
 use native.Mathlib.Omega.{arith}
 use lib.IntN.{ℤ, pos}
 use lib.ListN.{length, take, replicate, length-replicate}
+use Rattle.limits.specs.Limits.{maxRows}
 use Rattle.reading.specs.declared.ReadAnswer.{ReadAnswer}
 use Rattle.width.specs.Table.{filled}
 use Rattle.width.proofs.TableLaws.{take-filled}
@@ -25,14 +26,14 @@ module _ (c : tie.After-read) where
   rows : c .read .result .m ≡ rowsRead netlist
   rows = ap (λ (a : ReadAnswer). a .m) (c .read .ensures)
 
-  few : c .read .result .m ≤ 8
+  few : c .read .result .m ≤ maxRows
   few = omega (arith, rows, rows-few netlist (λ i. omega (arith, known .shared-slice-known .given i)))
 
-  lent : take (c .read .result .m) (replicate 8 (pos 0)) ≡ replicate (rowsRead netlist) (pos 0)
+  lent : take (c .read .result .m) (replicate maxRows (pos 0)) ≡ replicate (rowsRead netlist) (pos 0)
   unfolding filled
-  lent = take-filled (pos 0) (c .read .result .m) 8 few ∙ ap (λ (k : ℕ). replicate k (pos 0)) rows
+  lent = take-filled (pos 0) (c .read .result .m) maxRows few ∙ ap (λ (k : ℕ). replicate k (pos 0)) rows
 
-  count : length (take (c .read .result .m) (replicate 8 (pos 0))) ≡ c .read .result .m
+  count : length (take (c .read .result .m) (replicate maxRows (pos 0))) ≡ c .read .result .m
   count = ap (λ (l : List ℤ). length l) lent ∙ length-replicate (rowsRead netlist) (pos 0) ∙ sym rows
 
 read-requires : tie.Need-read-requires

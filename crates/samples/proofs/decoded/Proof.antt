@@ -5,16 +5,17 @@ use native.Mathlib.Omega.{arith}
 use native.Mathlib.Numerals.{add-one}
 use lib.ListN.{length, take, length-set}
 use mir.Syntax.{w16}
+use Rattle.limits.specs.Limits.{maxColumns}
 use Rattle.integers.proofs.Held.{call-result}
 use Rattle.layout.specs.Matrix.{signedWord}
-use Rattle.reading.specs.Tests.{firstRecords}
+use Rattle.layout.specs.Places.{firstRecords}
 use Rattle.samples.specs.Samples.{firstSamples}
 use Rattle.samples.proofs.Samples.{next-sample}
 use Rattle.samples.proofs.decoded.Statement.{statement}
 use Rattle.samples.proofs.decoded.Tie as tie
 
 abbrev Inv-loop : tie.InvT-loop
-Inv-loop bytes count samples₀ i₀ samples i = (i ≤ count) × ((length samples ≡ 8) × (take i samples ≡ firstSamples bytes i))
+Inv-loop bytes count samples₀ i₀ samples i = (i ≤ count) × ((length samples ≡ maxColumns) × (take i samples ≡ firstSamples bytes i))
 
 abbrev μ-loop : tie.MeasureT-loop
 μ-loop bytes count samples₀ i₀ samples i = count - i

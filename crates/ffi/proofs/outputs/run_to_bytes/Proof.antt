@@ -3,7 +3,7 @@ use Prim.Native.Nat.{ℕ}
 use mathlib.Core.Path.{subst}
 use native.Mathlib.Omega.{arith}
 use lib.ListN.{length-take}
-use Rattle.ffi.specs.OutputBytes.{Lent}
+use Rattle.ffi.specs.OutputBytes.{LentOutputs}
 use borrow.Author.Needs.{needs}
 use Rattle.ffi.proofs.outputs.run_to_bytes.Statement.{statement}
 use Rattle.ffi.proofs.outputs.run_to_bytes.Tie as tie
@@ -19,7 +19,7 @@ slice-aggregate-run-with c = simp length-take (omega arith)
 
 run-with-requires : tie.Need-run-with-requires
 run-with-requires c κs = let l = c .before .before in
-    subst (λ (k : ℕ). Lent (l .before .before .before .before .before .args .bytes .now) k) (slice-aggregate-run-with c) (l .lent-count .ensures)
+    subst (λ (k : ℕ). LentOutputs (l .before .before .before .before .before .args .bytes .now) k) (slice-aggregate-run-with c) (l .lent-count .ensures)
 
 same-length : tie.Need-same-length
 same-length c = search needs
