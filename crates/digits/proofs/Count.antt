@@ -42,10 +42,3 @@ canonic-nonzero-half half z ds c = omega (arith, canonic-nonzero (2 * half) z ds
 
 pub digits-nonzero-half : (half : ℕ) (z : ℤ) → nonzero (digits (2 * half) z) ≤ half
 digits-nonzero-half half z = omega (arith, digits-nonzero (2 * half) z)
-
--- 8 of a coefficient's 16, and 12 of 24
-pub coefficient-nonzero : (z : ℤ) (ds : List ℤ) → Canonic 16 z ds → nonzero ds ≤ 8
-coefficient-nonzero = canonic-nonzero-half 8
-
-pub wide-coefficient-nonzero : (z : ℤ) (ds : List ℤ) → Canonic 24 z ds → nonzero ds ≤ 12
-wide-coefficient-nonzero = canonic-nonzero-half 12

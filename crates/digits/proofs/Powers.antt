@@ -1,5 +1,4 @@
--- The powers of two at which a digit is nonzero sum to less than a third of the power two positions above the highest:
--- at most 43,690 over 16 positions, and 11,184,810 over 24.
+-- The powers of two at which a digit is nonzero sum to less than a third of the power two positions above the highest.
 -- Assumes nothing.
 use mathlib.Core.Path.{_≡_, ap}
 use mathlib.Core.Logic.{_⊎_, inl, inr}
@@ -44,9 +43,3 @@ canonic-powers positions z ds c = powers-apart 0 positions ds (omega (arith, c .
 
 pub digits-powers : (positions : ℕ) (z : ℤ) → 3 * powersFrom 0 (digits positions z) + 1 ≤ 2 ^ suc positions
 digits-powers positions z = powers-apart 0 positions (digits positions z) (omega (arith, digits-length positions z)) (digits-apart positions z)
-
-pub coefficient-powers : (z : ℤ) (ds : List ℤ) → Canonic 16 z ds → powersFrom 0 ds ≤ 43690
-coefficient-powers z ds c = omega (arith, canonic-powers 16 z ds c)
-
-pub wide-coefficient-powers : (z : ℤ) (ds : List ℤ) → Canonic 24 z ds → powersFrom 0 ds ≤ 11184810
-wide-coefficient-powers z ds c = omega (arith, canonic-powers 24 z ds c)

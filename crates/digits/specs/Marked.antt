@@ -4,11 +4,12 @@ use mathlib.Core.Path.{_≡_}
 use mathlib.Core.List.{List, [], _∷_}
 use Prim.Native.Nat.{ℕ, _^_}
 use lib.IntN.{ℤ, pos, negℤ}
+use Rattle.limits.specs.Limits.{positions}
 use Rattle.digits.specs.Digits.{digits, nonzero, summandsFrom}
 
 -- a coefficient as the sum that its digits are, lowest position first
 abbrev pub summands : ℤ → List ℤ
-summands z = summandsFrom 0 (digits 16 z)
+summands z = summandsFrom 0 (digits positions z)
 
 pub record MarkedDigits : Type 0 where
   -- 0 none
@@ -22,4 +23,4 @@ pub record MarkedDigits : Type 0 where
   -- −32,768 = −2^15
   pub smallest : summands (negℤ (pos 32768)) ≡ negℤ (pos (2 ^ 15)) ∷ []
   -- 21,845 has eight
-  pub eight : nonzero (digits 16 (pos 21845)) ≡ 8
+  pub eight : nonzero (digits positions (pos 21845)) ≡ 8

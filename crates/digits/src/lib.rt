@@ -1,9 +1,8 @@
-// Document 01, "Digits and terms": the canonic signed digits of a coefficient, lowest position first. Rests on `integers`.
+// Document 01, "Digits and terms": the canonic signed digits of a coefficient, lowest position first. Rests on `limits` and `integers`.
+use limits::POSITIONS;
 ghost use mathlib.Core.Path.{_≡_};
+ghost use Rattle.limits.specs.Limits.{positions};
 ghost use Rattle.digits.specs.Digits.{digit, rest, digits};
-
-// "Positions run 0 to 15".
-pub const POSITIONS: usize = 16;
 
 // An odd number's digit is the one that leaves a multiple of 4.
 fn digit_of(z: i32) -> i8
@@ -30,7 +29,7 @@ fn rest_of(z: i32) -> i32
 
 // The rest is worked in i32, where a carry at the top has room.
 pub fn digits(z: i16) -> [i8; POSITIONS]
-    ensures { λ r. do ⌜ r ≡ digits (← ⟦POSITIONS⟧ .entry) z ⌝ }
+    ensures { λ r. ⌜ r ≡ digits positions z ⌝ }
 {
     let mut out = [0i8; POSITIONS];
     let mut left = z as i32;

@@ -1,6 +1,6 @@
 -- The terms of a column's digits, one digit after the other.
 -- Assumes nothing.
-use Prim.Native.Nat.{ℕ, zero, suc, _+_, _≤_, _<_}
+use Prim.Native.Nat.{ℕ, zero, suc, _+_, _-_, _≤_, _<_}
 use mathlib.Core.Path.{_≡_, refl, sym, ap, _∙_}
 use mathlib.Core.Bool.{Bool}
 use mathlib.Core.List.{List, [], _∷_, _++_, append-nil, append-assoc}
@@ -12,6 +12,7 @@ use lib.Signed.{ltZ}
 use lib.ListN.{length, getD, drop, length-append}
 use mir.Syntax.{w8}
 use mir.Val.{SFits}
+use Rattle.limits.specs.Limits.{positions, maxDigits, maxTerms}
 use Rattle.term.specs.declared.Term.{Term}
 use Rattle.digits.specs.Digits.{IsDigit, minus-one, none, one, digits}
 use Rattle.elimination.proofs.Counts.{column-few}
@@ -57,9 +58,9 @@ module _ (column : ℕ) (ds : List ℤ) (i : ℕ) (done : Row) where
 
 -- ---- at most half the digits of a coefficient have a term
 
-pub column-most : (column : ℕ) (z : ℤ) (before : Row) → length before ≤ 56 → length (before ++ columnTerms column 0 (digits 16 z)) ≤ 64
+pub column-most : (column : ℕ) (z : ℤ) (before : Row) → length before ≤ maxTerms - maxDigits → length (before ++ columnTerms column 0 (digits positions z)) ≤ maxTerms
 column-most column z before h =
-    omega (arith, length-append before (columnTerms column 0 (digits 16 z)), column-few 8 column z)
+    omega (arith, length-append before (columnTerms column 0 (digits positions z)), column-few maxDigits column z)
 
 -- what stands in front is no longer than the whole
 pub front-most : (front rest whole : Row) (most : ℕ) → front ++ rest ≡ whole → length whole ≤ most → length front ≤ most

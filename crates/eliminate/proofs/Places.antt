@@ -6,8 +6,9 @@ use native.Mathlib.Nat.{suc-mul, mul-le-mul-right}
 use native.Mathlib.Omega.{arith}
 use lib.Dec.{ltb}
 use borrow.Author.Tests.{ltb-true, ltb-false}
+use Rattle.limits.specs.Limits.{maxRows, positions, termSymbols}
 use Rattle.elimination.proofs.Tests.{by-bool}
-use Rattle.eliminate.specs.Signs.{place}
+use Rattle.eliminate.specs.Signs.{tableSize, place}
 
 pub group-below : (n width a b : ℕ) → a < n → b < width → a * width + b < n * width
 group-below n width a b h k = omega (arith, suc-mul a width, mul-le-mul-right width h)
@@ -26,13 +27,12 @@ groups-same width a b c d h k e =
     let s : a ≡ c = omega (arith, ltb-false a c l, ltb-false c a g) in
     (s, omega (arith, e, ap (λ (n : ℕ). n * width) s))))
 
-module _ (symbols positions : ℕ) where
-  pub place-below : (most i s e : ℕ) → i < most → s < symbols → e < positions → place symbols positions i s e < most * symbols * positions
-  place-below most i s e h k l = group-below (most * symbols) positions (i * symbols + s) e (group-below most symbols i s h k) l
+pub place-below : (i s e : ℕ) → i < maxRows → s < termSymbols → e < positions → place i s e < tableSize
+place-below i s e h k l = group-below (maxRows * termSymbols) positions (i * termSymbols + s) e (group-below maxRows termSymbols i s h k) l
 
-  pub place-same : (i s e j t f : ℕ) → s < symbols → e < positions → t < symbols → f < positions
-      → place symbols positions i s e ≡ place symbols positions j t f → (i ≡ j) × (s ≡ t) × (e ≡ f)
-  place-same i s e j t f hs he ht hf q =
-      let (p, z) = groups-same positions (i * symbols + s) e (j * symbols + t) f he hf q in
-      let (x, y) = groups-same symbols i s j t hs ht p in
-      (x, y, z)
+pub place-same : (i s e j t f : ℕ) → s < termSymbols → e < positions → t < termSymbols → f < positions
+    → place i s e ≡ place j t f → (i ≡ j) × (s ≡ t) × (e ≡ f)
+place-same i s e j t f hs he ht hf q =
+    let (p, z) = groups-same positions (i * termSymbols + s) e (j * termSymbols + t) f he hf q in
+    let (x, y) = groups-same termSymbols i s j t hs ht p in
+    (x, y, z)

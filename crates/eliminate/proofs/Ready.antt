@@ -10,9 +10,10 @@ use lib.Dec.{ltb}
 use lib.IntN.{ℤ}
 use lib.ListN.{length, getD}
 use borrow.Author.Tests.{ltb-false}
+use Rattle.limits.specs.Limits.{maxRows, maxColumns, positions, maxDigits, maxTerms, termSymbols}
 use Rattle.elimination.specs.declared.Divisor.{Divisor}
 use Rattle.elimination.specs.Rows.{Row, Ascending, WellFormed, EachRow, rowFrom, matrixRows, plainCount}
-use Rattle.elimination.specs.Elimination.{Scored, before, noPairs, allPairs, pick, rowAfter, rowsAfter, smallestFirst, eliminate, andThen}
+use Rattle.elimination.specs.Elimination.{Scored, before, noPairs, allPairs, pick, rowAfter, rowsAfter, smallestFirst, eliminate, stepThen}
 use Rattle.elimination.specs.Lookup.{Proper, Signs, signAt, rowsSigns, lookupBest, lookupPick, lookupRowAfter}
 use Rattle.elimination.proofs.Order.{each-row, rows-well-formed-after, Columns, matrix-well-formed}
 use Rattle.elimination.proofs.Counts.{matrix-plain}
@@ -33,55 +34,55 @@ by-own-signs positions symbol d r = refl
 
 module _ (symbol : ℕ) (rows : List Row) (ready : Ready symbol rows) where
   ascending : (r : Row) → List·Memᴰ r rows → Ascending r
-  ascending r m = each-row (WellFormed 16 symbol) rows (ready .well-formed) r m .ascending
+  ascending r m = each-row (WellFormed positions symbol) rows (ready .well-formed) r m .ascending
 
-  module _ (limit : symbol ≤ 259) where
-    within : (r : Row) → List·Memᴰ r rows → Within 260 16 r
+  module _ (limit : symbol < termSymbols) where
+    within : (r : Row) → List·Memᴰ r rows → Within r
     within r m t k =
-        let w = each-row (WellFormed 16 symbol) rows (ready .well-formed) r m in
+        let w = each-row (WellFormed positions symbol) rows (ready .well-formed) r m in
         (omega (arith, w .symbols t k), w .exponents t k)
 
-    pub placed : Placed 260 16 rows
+    pub placed : Placed rows
     placed r m = (ascending r m, within r m)
 
-    table-row : (i : ℕ) → i < length rows → tableSigns 260 16 (signTable 260 16 8 rows) i ≡ signAt (getD rows i [])
-    table-row i h = table-signs 260 16 8 rows placed (ready .few) i h
+    table-row : (i : ℕ) → i < length rows → tableSigns (signTable rows) i ≡ signAt (getD rows i [])
+    table-row i h = table-signs rows placed (ready .few) i h
 
     -- the pick
-    table-rows : rowsSignsFrom 260 16 (signTable 260 16 8 rows) 0 (length rows) ≡ rowsSigns rows
-    table-rows = rows-signs 260 16 (signTable 260 16 8 rows) 0 rows (λ i h. ap (tableSigns 260 16 (signTable 260 16 8 rows)) (zero-add i) ∙ table-row i h)
+    table-rows : rowsSignsFrom (signTable rows) 0 (length rows) ≡ rowsSigns rows
+    table-rows = rows-signs (signTable rows) 0 rows (λ i h. ap (tableSigns (signTable rows)) (zero-add i) ∙ table-row i h)
 
-    pub picked : (table : List ℕ) → table ≡ signTable 260 16 8 rows → (best : Scored)
-        → best ≡ lookupBest 16 before (rowsSignsFrom 260 16 table 0 (length rows)) noPairs (allPairs rows) → best ≡ pick before rows
+    pub picked : (table : List ℕ) → table ≡ signTable rows → (best : Scored)
+        → best ≡ lookupBest positions before (rowsSignsFrom table 0 (length rows)) noPairs (allPairs rows) → best ≡ pick before rows
     picked table t best e =
         e
-        ∙ ap (λ (x : List ℕ). lookupBest 16 before (rowsSignsFrom 260 16 x 0 (length rows)) noPairs (allPairs rows)) t
-        ∙ ap (λ (signs : List Signs). lookupBest 16 before signs noPairs (allPairs rows)) table-rows
+        ∙ ap (λ (x : List ℕ). lookupBest positions before (rowsSignsFrom x 0 (length rows)) noPairs (allPairs rows)) t
+        ∙ ap (λ (signs : List Signs). lookupBest positions before signs noPairs (allPairs rows)) table-rows
         ∙ by-look-up
-        ∙ pick-looked-up 16 symbol before rows (ready .well-formed)
+        ∙ pick-looked-up positions symbol before rows (ready .well-formed)
       where
-        by-look-up : lookupBest 16 before (rowsSigns rows) noPairs (allPairs rows) ≡ lookupPick 16 before rows
+        by-look-up : lookupBest positions before (rowsSigns rows) noPairs (allPairs rows) ≡ lookupPick positions before rows
         by-look-up = unfold lookupPick in refl
 
     pub picked-proper : (best : Scored) → best ≡ pick before rows → 2 ≤ best .score → Proper (best .divisor)
     picked-proper best e h =
-        rw e (pick-proper 16 symbol before rows (ready .well-formed) (rw e at h))
+        rw e (pick-proper positions symbol before rows (ready .well-formed) (rw e at h))
 
     -- the row after a step
     module _ (i : ℕ) (h : i < length rows) where
-      pub row-within : Within 260 16 (getD rows i [])
+      pub row-within : Within (getD rows i [])
       row-within = within (getD rows i []) (member-at rows i [] h)
 
-      pub row-short : length (getD rows i []) ≤ 64
-      row-short = each-row (λ r. length r ≤ 64) rows (ready .short) (getD rows i []) (member-at rows i [] h)
+      pub row-short : length (getD rows i []) ≤ maxTerms
+      row-short = each-row (λ r. length r ≤ maxTerms) rows (ready .short) (getD rows i []) (member-at rows i [] h)
 
-      pub row-after-is : (d : Divisor) → Proper d → rowAfterBy 16 symbol d (tableSigns 260 16 (signTable 260 16 8 rows) i) (getD rows i []) ≡ rowAfter symbol d (getD rows i [])
+      pub row-after-is : (d : Divisor) → Proper d → rowAfterBy positions symbol d (tableSigns (signTable rows) i) (getD rows i []) ≡ rowAfter symbol d (getD rows i [])
       row-after-is d proper =
           let r : Row = getD rows i [] in
-          let w = each-row (WellFormed 16 symbol) rows (ready .well-formed) r (member-at rows i [] h) in
-          rw (table-row i h) (by-own-signs 16 symbol d r ∙ row-after-looked-up 16 symbol d proper r (w .ascending) (w .exponents))
+          let w = each-row (WellFormed positions symbol) rows (ready .well-formed) r (member-at rows i [] h) in
+          rw (table-row i h) (by-own-signs positions symbol d r ∙ row-after-looked-up positions symbol d proper r (w .ascending) (w .exponents))
 
-      pub row-after-short : (d : Divisor) → length (rowAfter symbol d (getD rows i [])) ≤ 64
+      pub row-after-short : (d : Divisor) → length (rowAfter symbol d (getD rows i [])) ≤ maxTerms
       row-after-short d = omega (arith, length-after symbol d (getD rows i []) .0, row-short)
 
 -- ---- the rows after a step
@@ -99,30 +100,30 @@ short-after symbol most d (r ∷ rs) s = (omega (arith, length-after symbol d r 
 pub ready-after : (symbol : ℕ) (d : Divisor) (rows : List Row) → Ready symbol rows → Ready (suc symbol) (rowsAfter symbol d rows)
 ready-after symbol d rows ready = record {
   few = omega (arith, length-rows-after symbol d rows, ready .few);
-  short = short-after symbol 64 d rows (ready .short);
-  well-formed = rows-well-formed-after 16 symbol d rows (ready .well-formed);
+  short = short-after symbol maxTerms d rows (ready .short);
+  well-formed = rows-well-formed-after positions symbol d rows (ready .well-formed);
 }
 
 -- ---- the matrix's rows
 
-matrix-short : (n : ℕ) (m : List (List ℤ)) → Columns n m → n ≤ 8 → EachRow (λ r. length r ≤ 64) (matrixRows 16 m)
+matrix-short : (n : ℕ) (m : List (List ℤ)) → Columns n m → n ≤ maxColumns → EachRow (λ r. length r ≤ maxTerms) (matrixRows positions m)
 unfolding matrixRows
 matrix-short n [] c h = tt
 matrix-short n (zs ∷ m) c h = (row-most, matrix-short n m (c .1) h)
   where
-    row-most : length (rowFrom 16 0 zs) ≤ 64
-    row-most = unfold matrixRows plainCount in omega (arith, matrix-plain 8 n (zs ∷ []) (c .0, tt))
+    row-most : length (rowFrom positions 0 zs) ≤ maxTerms
+    row-most = unfold matrixRows plainCount in omega (arith, matrix-plain maxDigits n (zs ∷ []) (c .0, tt))
 
-length-matrix : (m : List (List ℤ)) → length (matrixRows 16 m) ≡ length m
+length-matrix : (m : List (List ℤ)) → length (matrixRows positions m) ≡ length m
 unfolding matrixRows
 length-matrix [] = refl
 length-matrix (zs ∷ m) = ap suc (length-matrix m)
 
-pub ready-matrix : (n : ℕ) (m : List (List ℤ)) → Columns n m → n ≤ 8 → length m ≤ 8 → Ready n (matrixRows 16 m)
+pub ready-matrix : (n : ℕ) (m : List (List ℤ)) → Columns n m → n ≤ maxColumns → length m ≤ maxRows → Ready n (matrixRows positions m)
 ready-matrix n m c hn hm = record {
   few = omega (arith, length-matrix m);
   short = matrix-short n m c hn;
-  well-formed = matrix-well-formed 16 n m c;
+  well-formed = matrix-well-formed positions n m c;
 }
 
 -- ---- elimination, step by step
@@ -143,7 +144,7 @@ module _ (fuel symbol : ℕ) (made : List Divisor) (rows : List Row) where
 
   pub step-goes-on : (answer .replaced ≡ 0 → ⊥)
       → eliminate smallestFirst (suc fuel) symbol made rows
-      ≡ andThen (record { divisor = answer .divisor; score = answer .replaced }) (eliminate smallestFirst fuel (suc symbol) (made ++ (answer .divisor ∷ [])) (answer .rows))
+      ≡ stepThen (record { divisor = answer .divisor; score = answer .replaced }) (eliminate smallestFirst fuel (suc symbol) (made ++ (answer .divisor ∷ [])) (answer .rows))
   unfolding stepAnswer eliminate
   step-goes-on h =
       by-bool (ltb (pick before rows .score) 2)

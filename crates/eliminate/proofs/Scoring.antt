@@ -11,6 +11,7 @@ use borrow.Author.Tests.{eq-eqb, ne-eqb, le-leb, lt-leb}
 use lib.Dec.{eqb, leb}
 use lib.ListN.{length, getD, set, replicate, length-append}
 use lib.Seq.{set-at}
+use Rattle.limits.specs.Limits.{positions}
 use Rattle.elimination.specs.declared.Divisor.{Divisor}
 use Rattle.elimination.specs.Lookup.{Signs, occursWith, occursAt, overlapsTaken, takenFlags, countTrue, lookupScore, signAt, rowsSigns}
 use Rattle.elimination.specs.Rows.{Row}
@@ -130,31 +131,31 @@ count-most [] = omega arith
 count-most (true ∷ flags) = omega (arith, count-most flags)
 count-most (false ∷ flags) = omega (arith, count-most flags)
 
-pub table-none : (symbols positions : ℕ) (table : List ℕ) (i symbol exponent : ℕ) → positions ≤ exponent → tableSigns symbols positions table i symbol exponent ≡ 0
-table-none symbols positions table i symbol exponent h = look-out symbols positions table i symbol exponent (λ s e. omega arith)
+pub table-none : (table : List ℕ) (i symbol exponent : ℕ) → positions ≤ exponent → tableSigns table i symbol exponent ≡ 0
+table-none table i symbol exponent h = look-out table i symbol exponent (λ s e. omega arith)
 
-module _ (symbols positions : ℕ) (table : List ℕ) (d : Divisor) (i : ℕ) where
-  pub row-most : (n : ℕ) → countTrue (takenFlags (tableSigns symbols positions table i) d n) ≤ n
-  row-most n = omega (arith, count-most (takenFlags (tableSigns symbols positions table i) d n), flags-length (tableSigns symbols positions table i) d n)
+module _ (table : List ℕ) (d : Divisor) (i : ℕ) where
+  pub row-most : (n : ℕ) → countTrue (takenFlags (tableSigns table i) d n) ≤ n
+  row-most n = omega (arith, count-most (takenFlags (tableSigns table i) d n), flags-length (tableSigns table i) d n)
 
-  pub score-next : (n m : ℕ) → i < m → lookupScore n (rowsSignsFrom symbols positions table i (m - i)) d
-      ≡ countTrue (takenFlags (tableSigns symbols positions table i) d n) + lookupScore n (rowsSignsFrom symbols positions table (i + 1) (m - (i + 1))) d
+  pub score-next : (n m : ℕ) → i < m → lookupScore n (rowsSignsFrom table i (m - i)) d
+      ≡ countTrue (takenFlags (tableSigns table i) d n) + lookupScore n (rowsSignsFrom table (i + 1) (m - (i + 1))) d
   unfolding rowsSignsFrom lookupScore
   score-next n m h = let e : m - i ≡ suc (m - (i + 1)) = omega arith in rw (e, add-one i)
 
-  pub score-end : (n m : ℕ) → m ≤ i → lookupScore n (rowsSignsFrom symbols positions table i (m - i)) d ≡ 0
+  pub score-end : (n m : ℕ) → m ≤ i → lookupScore n (rowsSignsFrom table i (m - i)) d ≡ 0
   unfolding rowsSignsFrom lookupScore
   score-end n m h = let e : m - i ≡ 0 = omega arith in rw e
 
-pub score-start : (symbols positions : ℕ) (table : List ℕ) (d : Divisor) (n m : ℕ)
-    → lookupScore n (rowsSignsFrom symbols positions table 0 (m - 0)) d ≡ lookupScore n (rowsSignsFrom symbols positions table 0 m) d
-score-start symbols positions table d n m = let e : m - 0 ≡ m = omega arith in rw e
+pub score-start : (table : List ℕ) (d : Divisor) (n m : ℕ)
+    → lookupScore n (rowsSignsFrom table 0 (m - 0)) d ≡ lookupScore n (rowsSignsFrom table 0 m) d
+score-start table d n m = let e : m - 0 ≡ m = omega arith in rw e
 
-pub rows-signs : (symbols positions : ℕ) (table : List ℕ) (k : ℕ) (rows : List Row) → ((i : ℕ) → i < length rows → tableSigns symbols positions table (k + i) ≡ signAt (getD rows i []))
-    → rowsSignsFrom symbols positions table k (length rows) ≡ rowsSigns rows
+pub rows-signs : (table : List ℕ) (k : ℕ) (rows : List Row) → ((i : ℕ) → i < length rows → tableSigns table (k + i) ≡ signAt (getD rows i []))
+    → rowsSignsFrom table k (length rows) ≡ rowsSigns rows
 unfolding rowsSignsFrom
-rows-signs symbols positions table k [] h = refl
-rows-signs symbols positions table k (r ∷ rs) h =
+rows-signs table k [] h = refl
+rows-signs table k (r ∷ rs) h =
     ap₂ (λ (x : Signs) (xs : List Signs). x ∷ xs)
-    (ap (tableSigns symbols positions table) (sym (add-zero k)) ∙ h 0 (omega arith))
-    (rows-signs symbols positions table (suc k) rs (λ i l. ap (tableSigns symbols positions table) (omega arith) ∙ h (suc i) (omega arith)))
+    (ap (tableSigns table) (sym (add-zero k)) ∙ h 0 (omega arith))
+    (rows-signs table (suc k) rs (λ i l. ap (tableSigns table) (omega arith) ∙ h (suc i) (omega arith)))

@@ -11,12 +11,13 @@ use borrow.Author.Tests.{ltb-true, ltb-false, lt-ltb}
 use lib.Dec.{ltb}
 use lib.ListN.{length, getD, set, drop, replicate, length-set, length-replicate, getD-replicate, List·getD-eq-default}
 use lib.Seq.{getD-set-same, getD-set-other}
+use Rattle.limits.specs.Limits.{maxRows, positions, termSymbols}
 use Rattle.term.specs.declared.Term.{Term}
 use Rattle.elimination.specs.Rows.{Row, Precedes, Ascending}
 use Rattle.elimination.specs.Lookup.{signAt, signNumber}
 use Rattle.elimination.proofs.Tests.{by-bool, and-left, and-right, and-both, clash}
 use Rattle.lookup.proofs.Looking.{stands, stands-yes, stands-no, sign-here, sign-later}
-use Rattle.eliminate.specs.Signs.{blankSigns, Within, Placed, place, tableSigns, enteredTerms, enteredRows, signTable}
+use Rattle.eliminate.specs.Signs.{blankSigns, Within, Placed, tableSize, place, tableSigns, enteredTerms, enteredRows, signTable}
 use Rattle.eliminate.proofs.Members.{member-at, left-next, left-none}
 use Rattle.eliminate.proofs.Places.{place-below, place-same}
 
@@ -31,151 +32,151 @@ alone : (t u : Term) (s e : ℕ) → Precedes t u → Stands t s e → Stands u 
 alone t u s e (inl p) x y = omega arith
 alone t u s e (inr p) x y = omega arith
 
-module _ (symbols positions : ℕ) where
-  -- ---- a symbol or exponent that has no place has no term
-  within-tail : (t : Term) (r : Row) → Within symbols positions (t ∷ r) → Within symbols positions r
-  within-tail t r w u m = w u (List·Memᴰ·tail m)
+-- ---- a symbol or exponent that has no place has no term
 
-  no-sign : (r : Row) (s e : ℕ) → Within symbols positions r → (s < symbols → e < positions → ⊥) → signAt r s e ≡ 0
-  no-sign [] s e w h = unfold signAt in refl
-  no-sign (t ∷ r) s e w h =
-      by-bool (stands s e t)
-      (λ y. let (p, q) = stands-yes s e t y in let (a, b) = w t (List·Memᴰ·head refl) in absurd (h (rw p at a) (rw q at b)))
-      (λ n. sign-later s e t r n ∙ no-sign r s e (within-tail t r w) h)
+within-tail : (t : Term) (r : Row) → Within (t ∷ r) → Within r
+within-tail t r w u m = w u (List·Memᴰ·tail m)
 
-  -- ---- entering the terms of a row
+no-sign : (r : Row) (s e : ℕ) → Within r → (s < termSymbols → e < positions → ⊥) → signAt r s e ≡ 0
+no-sign [] s e w h = unfold signAt in refl
+no-sign (t ∷ r) s e w h =
+    by-bool (stands s e t)
+    (λ y. let (p, q) = stands-yes s e t y in let (a, b) = w t (List·Memᴰ·head refl) in absurd (h (rw p at a) (rw q at b)))
+    (λ n. sign-later s e t r n ∙ no-sign r s e (within-tail t r w) h)
 
-  pub entered-length : (i : ℕ) (table : List ℕ) (r : Row) → length (enteredTerms symbols positions i table r) ≡ length table
+-- ---- entering the terms of a row
+
+pub entered-length : (i : ℕ) (table : List ℕ) (r : Row) → length (enteredTerms i table r) ≡ length table
+unfolding enteredTerms
+entered-length i table [] = refl
+entered-length i table (t ∷ r) =
+    let at = place i (t .symbol) (t .exponent) in
+    entered-length i (set table at (signNumber (t .negative))) r ∙ length-set table at (signNumber (t .negative))
+
+pub entered-next : (i : ℕ) (table : List ℕ) (r : Row) (j : ℕ) (d : Term) → j < length r
+    → enteredTerms i table (drop j r)
+    ≡ enteredTerms i (set table (place i (getD r j d .symbol) (getD r j d .exponent)) (signNumber (getD r j d .negative))) (drop (j + 1) r)
+unfolding enteredTerms
+entered-next i table r j d h = ap (enteredTerms i table) (left-next r j d h)
+
+pub entered-end : (i : ℕ) (table : List ℕ) (r : Row) (j : ℕ) → length r ≤ j → enteredTerms i table (drop j r) ≡ table
+unfolding enteredTerms
+entered-end i table r j h = ap (enteredTerms i table) (left-none r j h)
+
+module _ (i k s e : ℕ) (hs : s < termSymbols) (he : e < positions) where
+  -- a place where no term of the row stands
+  untouched : (table : List ℕ) (r : Row) → Within r → ((t : Term) → List·Memᴰ t r → i ≡ k → Stands t s e → ⊥)
+      → getD (enteredTerms i table r) (place k s e) 0 ≡ getD table (place k s e) 0
   unfolding enteredTerms
-  entered-length i table [] = refl
-  entered-length i table (t ∷ r) =
-      let at = place symbols positions i (t .symbol) (t .exponent) in
-      entered-length i (set table at (signNumber (t .negative))) r ∙ length-set table at (signNumber (t .negative))
-
-  pub entered-next : (i : ℕ) (table : List ℕ) (r : Row) (j : ℕ) (d : Term) → j < length r
-      → enteredTerms symbols positions i table (drop j r)
-      ≡ enteredTerms symbols positions i (set table (place symbols positions i (getD r j d .symbol) (getD r j d .exponent)) (signNumber (getD r j d .negative))) (drop (j + 1) r)
-  unfolding enteredTerms
-  entered-next i table r j d h = ap (enteredTerms symbols positions i table) (left-next r j d h)
-
-  pub entered-end : (i : ℕ) (table : List ℕ) (r : Row) (j : ℕ) → length r ≤ j → enteredTerms symbols positions i table (drop j r) ≡ table
-  unfolding enteredTerms
-  entered-end i table r j h = ap (enteredTerms symbols positions i table) (left-none r j h)
-
-  module _ (i k s e : ℕ) (hs : s < symbols) (he : e < positions) where
-    -- a place where no term of the row stands
-    untouched : (table : List ℕ) (r : Row) → Within symbols positions r → ((t : Term) → List·Memᴰ t r → i ≡ k → Stands t s e → ⊥)
-        → getD (enteredTerms symbols positions i table r) (place symbols positions k s e) 0 ≡ getD table (place symbols positions k s e) 0
-    unfolding enteredTerms
-    untouched table [] w h = refl
-    untouched table (t ∷ r) w h =
-        let here = w t (List·Memᴰ·head refl) in
-        let at = place symbols positions i (t .symbol) (t .exponent) in
-        untouched (set table at (signNumber (t .negative))) r (within-tail t r w) (λ u m. h u (List·Memᴰ·tail m))
-        ∙ getD-set-other table at (place symbols positions k s e) (signNumber (t .negative)) 0
-        (λ q. let same = place-same symbols positions k s e i (t .symbol) (t .exponent) hs he (here .0) (here .1) q in
-        h t (List·Memᴰ·head refl) (sym (same .0)) (sym (same .1), sym (same .2)))
-
-  -- the row's own places
-  entered-own : (i s e : ℕ) → s < symbols → e < positions → (table : List ℕ) (r : Row) → Ascending r → Within symbols positions r
-      → place symbols positions i s e < length table → getD table (place symbols positions i s e) 0 ≡ 0
-      → getD (enteredTerms symbols positions i table r) (place symbols positions i s e) 0 ≡ signAt r s e
-  unfolding enteredTerms
-  entered-own i s e hs he table [] a w l z = z ∙ unfold signAt in refl
-  entered-own i s e hs he table (t ∷ r) a w l z =
+  untouched table [] w h = refl
+  untouched table (t ∷ r) w h =
       let here = w t (List·Memᴰ·head refl) in
-      let at = place symbols positions i (t .symbol) (t .exponent) in
-      let own = place symbols positions i s e in
-      let n = signNumber (t .negative) in
-      by-bool (stands s e t)
-      (λ y.
-      let k = stands-yes s e t y in
-      let q : at ≡ own = ap₂ (place symbols positions i) (k .0) (k .1) in
-      untouched i i s e hs he (set table at n) r (within-tail t r w) (λ u m _ v. alone t u s e (a .0 u m) k v)
-      ∙ rw q (getD-set-same table own n 0 l)
-      ∙ sym (sign-here s e t r y))
-      (λ y.
-      let o = getD-set-other table at own n 0 (λ q. let same = place-same symbols positions i s e i (t .symbol) (t .exponent) hs he (here .0) (here .1) q in stands-no s e t y (sym (same .1), sym (same .2))) in
-      entered-own i s e hs he (set table at n) r (a .1) (within-tail t r w) (rw (length-set table at n) l) (o ∙ z)
-      ∙ sym (sign-later s e t r y))
+      let at = place i (t .symbol) (t .exponent) in
+      untouched (set table at (signNumber (t .negative))) r (within-tail t r w) (λ u m. h u (List·Memᴰ·tail m))
+      ∙ getD-set-other table at (place k s e) (signNumber (t .negative)) 0
+      (λ q. let same = place-same k s e i (t .symbol) (t .exponent) hs he (here .0) (here .1) q in
+      h t (List·Memᴰ·head refl) (sym (same .0)) (sym (same .1), sym (same .2)))
 
-  -- ---- entering rows
+-- the row's own places
+entered-own : (i s e : ℕ) → s < termSymbols → e < positions → (table : List ℕ) (r : Row) → Ascending r → Within r
+    → place i s e < length table → getD table (place i s e) 0 ≡ 0
+    → getD (enteredTerms i table r) (place i s e) 0 ≡ signAt r s e
+unfolding enteredTerms
+entered-own i s e hs he table [] a w l z = z ∙ unfold signAt in refl
+entered-own i s e hs he table (t ∷ r) a w l z =
+    let here = w t (List·Memᴰ·head refl) in
+    let at = place i (t .symbol) (t .exponent) in
+    let own = place i s e in
+    let n = signNumber (t .negative) in
+    by-bool (stands s e t)
+    (λ y.
+    let k = stands-yes s e t y in
+    let q : at ≡ own = ap₂ (place i) (k .0) (k .1) in
+    untouched i i s e hs he (set table at n) r (within-tail t r w) (λ u m _ v. alone t u s e (a .0 u m) k v)
+    ∙ rw q (getD-set-same table own n 0 l)
+    ∙ sym (sign-here s e t r y))
+    (λ y.
+    let o = getD-set-other table at own n 0 (λ q. let same = place-same i s e i (t .symbol) (t .exponent) hs he (here .0) (here .1) q in stands-no s e t y (sym (same .1), sym (same .2))) in
+    entered-own i s e hs he (set table at n) r (a .1) (within-tail t r w) (rw (length-set table at n) l) (o ∙ z)
+    ∙ sym (sign-later s e t r y))
 
-  module _ (s e : ℕ) (hs : s < symbols) (he : e < positions) where
-    rows-before : (i k : ℕ) → k < i → (table : List ℕ) (rows : List Row) → Placed symbols positions rows
-        → getD (enteredRows symbols positions i table rows) (place symbols positions k s e) 0 ≡ getD table (place symbols positions k s e) 0
-    unfolding enteredRows
-    rows-before i k h table [] f = refl
-    rows-before i k h table (r ∷ rs) f =
-        rows-before (suc i) k (omega arith) (enteredTerms symbols positions i table r) rs (λ q m. f q (List·Memᴰ·tail m))
-        ∙ untouched i k s e hs he table r (f r (List·Memᴰ·head refl) .1) (λ t m q. absurd (omega arith))
+-- ---- entering rows
 
-    rows-at : (most i j k : ℕ) (table : List ℕ) (rows : List Row) → k ≡ i + j → j < length rows → Placed symbols positions rows
-        → k < most → length table ≡ most * symbols * positions → getD table (place symbols positions k s e) 0 ≡ 0
-        → getD (enteredRows symbols positions i table rows) (place symbols positions k s e) 0 ≡ signAt (getD rows j []) s e
-    unfolding enteredRows
-    rows-at most i j k table [] q h f b l z = absurd (omega arith)
-    rows-at most i zero k table (r ∷ rs) q h f b l z =
-        let p : k ≡ i = omega arith in
-        let fit = f r (List·Memᴰ·head refl) in
-        rows-before (suc i) k (omega arith) (enteredTerms symbols positions i table r) rs (λ u m. f u (List·Memᴰ·tail m))
-        ∙ rw (← p) (entered-own k s e hs he table r (fit .0) (fit .1) (omega (arith, place-below symbols positions most k s e b hs he)) z)
-    rows-at most i (suc j) k table (r ∷ rs) q h f b l z =
-        rows-at most (suc i) j k (enteredTerms symbols positions i table r) rs (omega arith) (omega arith) (λ u m. f u (List·Memᴰ·tail m)) b
-        (entered-length i table r ∙ l)
-        (untouched i k s e hs he table r (f r (List·Memᴰ·head refl) .1) (λ t m p. absurd (omega arith)) ∙ z)
-
-  pub entered-rows-start : (most : ℕ) (rows : List Row) → enteredRows symbols positions 0 (blankSigns (most * symbols * positions)) rows ≡ signTable symbols positions most rows
-  unfolding signTable
-  entered-rows-start most rows = refl
-
-  pub entered-rows-next : (i : ℕ) (table : List ℕ) (rows : List Row) → i < length rows
-      → enteredRows symbols positions i table (drop i rows)
-      ≡ enteredRows symbols positions (i + 1) (enteredTerms symbols positions i table (getD rows i [])) (drop (i + 1) rows)
+module _ (s e : ℕ) (hs : s < termSymbols) (he : e < positions) where
+  rows-before : (i k : ℕ) → k < i → (table : List ℕ) (rows : List Row) → Placed rows
+      → getD (enteredRows i table rows) (place k s e) 0 ≡ getD table (place k s e) 0
   unfolding enteredRows
-  entered-rows-next i table rows h = rw (left-next rows i [] h, add-one i)
+  rows-before i k h table [] f = refl
+  rows-before i k h table (r ∷ rs) f =
+      rows-before (suc i) k (omega arith) (enteredTerms i table r) rs (λ q m. f q (List·Memᴰ·tail m))
+      ∙ untouched i k s e hs he table r (f r (List·Memᴰ·head refl) .1) (λ t m q. absurd (omega arith))
 
-  pub entered-rows-end : (i : ℕ) (table : List ℕ) (rows : List Row) → length rows ≤ i → enteredRows symbols positions i table (drop i rows) ≡ table
+  rows-at : (i j k : ℕ) (table : List ℕ) (rows : List Row) → k ≡ i + j → j < length rows → Placed rows
+      → k < maxRows → length table ≡ tableSize → getD table (place k s e) 0 ≡ 0
+      → getD (enteredRows i table rows) (place k s e) 0 ≡ signAt (getD rows j []) s e
   unfolding enteredRows
-  entered-rows-end i table rows h = ap (enteredRows symbols positions i table) (left-none rows i h)
+  rows-at i j k table [] q h f b l z = absurd (omega arith)
+  rows-at i zero k table (r ∷ rs) q h f b l z =
+      let p : k ≡ i = omega arith in
+      let fit = f r (List·Memᴰ·head refl) in
+      rows-before (suc i) k (omega arith) (enteredTerms i table r) rs (λ u m. f u (List·Memᴰ·tail m))
+      ∙ rw (← p) (entered-own k s e hs he table r (fit .0) (fit .1) (omega (arith, place-below k s e b hs he)) z)
+  rows-at i (suc j) k table (r ∷ rs) q h f b l z =
+      rows-at (suc i) j k (enteredTerms i table r) rs (omega arith) (omega arith) (λ u m. f u (List·Memᴰ·tail m)) b
+      (entered-length i table r ∙ l)
+      (untouched i k s e hs he table r (f r (List·Memᴰ·head refl) .1) (λ t m p. absurd (omega arith)) ∙ z)
 
-  blank-at : (size p : ℕ) → getD (blankSigns size) p 0 ≡ 0
-  unfolding blankSigns
-  blank-at size p =
-      by-bool (ltb p size)
-      (λ y. getD-replicate size p 0 0 (ltb-true p size y))
-      (λ y. List·getD-eq-default (replicate size 0) 0 {n = p} (omega (arith, length-replicate {A = ℕ} size 0, ltb-false p size y)))
+pub entered-rows-start : (rows : List Row) → enteredRows 0 (blankSigns tableSize) rows ≡ signTable rows
+unfolding signTable
+entered-rows-start rows = refl
 
-  blank-length : (size : ℕ) → length (blankSigns size) ≡ size
-  unfolding blankSigns
-  blank-length size = length-replicate size 0
+pub entered-rows-next : (i : ℕ) (table : List ℕ) (rows : List Row) → i < length rows
+    → enteredRows i table (drop i rows)
+    ≡ enteredRows (i + 1) (enteredTerms i table (getD rows i [])) (drop (i + 1) rows)
+unfolding enteredRows
+entered-rows-next i table rows h = rw (left-next rows i [] h, add-one i)
 
-  -- ---- looking up
+pub entered-rows-end : (i : ℕ) (table : List ℕ) (rows : List Row) → length rows ≤ i → enteredRows i table (drop i rows) ≡ table
+unfolding enteredRows
+entered-rows-end i table rows h = ap (enteredRows i table) (left-none rows i h)
 
-  pub look-in : (table : List ℕ) (i s e : ℕ) → s < symbols → e < positions → tableSigns symbols positions table i s e ≡ getD table (place symbols positions i s e) 0
-  unfolding tableSigns
-  look-in table i s e hs he = rw (and-both (ltb s symbols) (ltb e positions) (lt-ltb s symbols hs) (lt-ltb e positions he), tableSigns)
+blank-at : (size p : ℕ) → getD (blankSigns size) p 0 ≡ 0
+unfolding blankSigns
+blank-at size p =
+    by-bool (ltb p size)
+    (λ y. getD-replicate size p 0 0 (ltb-true p size y))
+    (λ y. List·getD-eq-default (replicate size 0) 0 {n = p} (omega (arith, length-replicate {A = ℕ} size 0, ltb-false p size y)))
 
-  pub look-out : (table : List ℕ) (i s e : ℕ) → (s < symbols → e < positions → ⊥) → tableSigns symbols positions table i s e ≡ 0
-  unfolding tableSigns
-  look-out table i s e h =
-      by-bool (ltb s symbols && ltb e positions)
-      (λ y. absurd (h (ltb-true s symbols (and-left (ltb s symbols) (ltb e positions) y)) (ltb-true e positions (and-right (ltb s symbols) (ltb e positions) y))))
-      (λ n. rw (n, tableSigns))
+blank-length : (size : ℕ) → length (blankSigns size) ≡ size
+unfolding blankSigns
+blank-length size = length-replicate size 0
 
-  pub table-signs : (most : ℕ) (rows : List Row) → Placed symbols positions rows → length rows ≤ most → (i : ℕ) → i < length rows
-      → tableSigns symbols positions (signTable symbols positions most rows) i ≡ signAt (getD rows i [])
-  unfolding signTable
-  table-signs most rows f l i h =
-      let blank = blankSigns (most * symbols * positions) in
-      let table = enteredRows symbols positions 0 blank rows in
-      fun-ext λ s. fun-ext λ e.
-      by-bool (ltb s symbols && ltb e positions)
-      (λ y.
-      let hs = ltb-true s symbols (and-left (ltb s symbols) (ltb e positions) y) in
-      let he = ltb-true e positions (and-right (ltb s symbols) (ltb e positions) y) in
-      look-in table i s e hs he
-      ∙ rows-at s e hs he most 0 i i blank rows (omega arith) h f (omega arith) (blank-length (most * symbols * positions)) (blank-at (most * symbols * positions) (place symbols positions i s e)))
-      (λ n.
-      let out : s < symbols → e < positions → ⊥ = λ a b. clash (and-both (ltb s symbols) (ltb e positions) (lt-ltb s symbols a) (lt-ltb e positions b)) n in
-      look-out table i s e out ∙ sym (no-sign (getD rows i []) s e (f (getD rows i []) (member-at rows i [] h) .1) out))
+-- ---- looking up
+
+pub look-in : (table : List ℕ) (i s e : ℕ) → s < termSymbols → e < positions → tableSigns table i s e ≡ getD table (place i s e) 0
+unfolding tableSigns
+look-in table i s e hs he = rw (and-both (ltb s termSymbols) (ltb e positions) (lt-ltb s termSymbols hs) (lt-ltb e positions he), tableSigns)
+
+pub look-out : (table : List ℕ) (i s e : ℕ) → (s < termSymbols → e < positions → ⊥) → tableSigns table i s e ≡ 0
+unfolding tableSigns
+look-out table i s e h =
+    by-bool (ltb s termSymbols && ltb e positions)
+    (λ y. absurd (h (ltb-true s termSymbols (and-left (ltb s termSymbols) (ltb e positions) y)) (ltb-true e positions (and-right (ltb s termSymbols) (ltb e positions) y))))
+    (λ n. rw (n, tableSigns))
+
+pub table-signs : (rows : List Row) → Placed rows → length rows ≤ maxRows → (i : ℕ) → i < length rows
+    → tableSigns (signTable rows) i ≡ signAt (getD rows i [])
+unfolding signTable
+table-signs rows f l i h =
+    let blank = blankSigns tableSize in
+    let table = enteredRows 0 blank rows in
+    fun-ext λ s. fun-ext λ e.
+    by-bool (ltb s termSymbols && ltb e positions)
+    (λ y.
+    let hs = ltb-true s termSymbols (and-left (ltb s termSymbols) (ltb e positions) y) in
+    let he = ltb-true e positions (and-right (ltb s termSymbols) (ltb e positions) y) in
+    look-in table i s e hs he
+    ∙ rows-at s e hs he 0 i i blank rows (omega arith) h f (omega arith) (blank-length tableSize) (blank-at tableSize (place i s e)))
+    (λ n.
+    let out : s < termSymbols → e < positions → ⊥ = λ a b. clash (and-both (ltb s termSymbols) (ltb e positions) (lt-ltb s termSymbols a) (lt-ltb e positions b)) n in
+    look-out table i s e out ∙ sym (no-sign (getD rows i []) s e (f (getD rows i []) (member-at rows i [] h) .1) out))

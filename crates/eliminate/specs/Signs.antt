@@ -1,11 +1,12 @@
 -- The signs of the terms of all rows, as a table: 0 there is none, 1 plus, 2 minus, as `signAt` of `elimination` has them.
--- It has a place for each row, each symbol below a limit, and each of a number of positions.
+-- It has a place for each row, each symbol of a term and each exponent within the limits.
 -- Assumes nothing.
 use Prim.Native.Nat.{ℕ, zero, suc, _+_, _*_, _<_}
 use mathlib.Core.Bool.{true, false, _&&_}
 use mathlib.Core.List.{List, [], _∷_, List·Memᴰ}
 use lib.Dec.{ltb}
 use lib.ListN.{getD, set, replicate}
+use Rattle.limits.specs.Limits.{maxRows, positions, termSymbols}
 use Rattle.term.specs.declared.Term.{Term}
 use Rattle.elimination.specs.Rows.{Row, Ascending}
 use Rattle.elimination.specs.Lookup.{Signs, signNumber}
@@ -14,42 +15,45 @@ use Rattle.elimination.specs.Lookup.{Signs, signNumber}
 unfoldable pub blankSigns : ℕ → List ℕ
 blankSigns size = replicate size 0
 
-module _ (symbols positions : ℕ) where
-  -- every term of a row has a place
-  abbrev pub Within : Row → Type 0
-  Within r = (t : Term) → List·Memᴰ t r → (t .symbol < symbols) × (t .exponent < positions)
+-- every term of a row has a place
+abbrev pub Within : Row → Type 0
+Within r = (t : Term) → List·Memᴰ t r → (t .symbol < termSymbols) × (t .exponent < positions)
 
-  -- and the rows are in order besides
-  abbrev pub Placed : List Row → Type 0
-  Placed rows = (r : Row) → List·Memᴰ r rows → Ascending r × Within r
+-- and the rows are in order besides
+abbrev pub Placed : List Row → Type 0
+Placed rows = (r : Row) → List·Memᴰ r rows → Ascending r × Within r
 
-  -- where the sign of a symbol and an exponent in a row stands
-  abbrev pub place : ℕ → ℕ → ℕ → ℕ
-  place row symbol exponent = (row * symbols + symbol) * positions + exponent
+-- a place for each row, symbol and exponent
+abbrev pub tableSize : ℕ
+tableSize = maxRows * termSymbols * positions
 
-  -- what a table says of a row
-  unfoldable pub tableSigns : List ℕ → ℕ → Signs
-  tableSigns table row symbol exponent =
-      elim (ltb symbol symbols && ltb exponent positions) [ true ↦ getD table (place row symbol exponent) 0 | false ↦ 0 ]
+-- where the sign of a symbol and an exponent in a row stands
+abbrev pub place : ℕ → ℕ → ℕ → ℕ
+place row symbol exponent = (row * termSymbols + symbol) * positions + exponent
 
-  -- and of so many rows from a row on
-  unfoldable pub rowsSignsFrom : List ℕ → ℕ → ℕ → List Signs
-  unfolding tableSigns
-  rowsSignsFrom table row zero = []
-  rowsSignsFrom table row (suc count) = tableSigns table row ∷ rowsSignsFrom table (suc row) count
+-- what a table says of a row
+unfoldable pub tableSigns : List ℕ → ℕ → Signs
+tableSigns table row symbol exponent =
+    elim (ltb symbol termSymbols && ltb exponent positions) [ true ↦ getD table (place row symbol exponent) 0 | false ↦ 0 ]
 
-  -- a table after the terms of a row were entered
-  unfoldable pub enteredTerms : ℕ → List ℕ → Row → List ℕ
-  enteredTerms row table [] = table
-  enteredTerms row table (t ∷ r) = enteredTerms row (set table (place row (t .symbol) (t .exponent)) (signNumber (t .negative))) r
+-- and of so many rows from a row on
+unfoldable pub rowsSignsFrom : List ℕ → ℕ → ℕ → List Signs
+unfolding tableSigns
+rowsSignsFrom table row zero = []
+rowsSignsFrom table row (suc count) = tableSigns table row ∷ rowsSignsFrom table (suc row) count
 
-  -- and after rows from a row on
-  unfoldable pub enteredRows : ℕ → List ℕ → List Row → List ℕ
-  unfolding enteredTerms
-  enteredRows row table [] = table
-  enteredRows row table (r ∷ rs) = enteredRows (suc row) (enteredTerms row table r) rs
+-- a table after the terms of a row were entered
+unfoldable pub enteredTerms : ℕ → List ℕ → Row → List ℕ
+enteredTerms row table [] = table
+enteredTerms row table (t ∷ r) = enteredTerms row (set table (place row (t .symbol) (t .exponent)) (signNumber (t .negative))) r
 
-  -- the table of at most so many rows
-  unfoldable pub signTable : ℕ → List Row → List ℕ
-  unfolding enteredRows blankSigns
-  signTable most rows = enteredRows 0 (blankSigns (most * symbols * positions)) rows
+-- and after rows from a row on
+unfoldable pub enteredRows : ℕ → List ℕ → List Row → List ℕ
+unfolding enteredTerms
+enteredRows row table [] = table
+enteredRows row table (r ∷ rs) = enteredRows (suc row) (enteredTerms row table r) rs
+
+-- the table of rows
+unfoldable pub signTable : List Row → List ℕ
+unfolding enteredRows
+signTable rows = enteredRows 0 (blankSigns tableSize) rows

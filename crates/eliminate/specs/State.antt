@@ -4,6 +4,7 @@ use Prim.Native.Nat.{ℕ, _≤_}
 use mathlib.Core.Bool.{false}
 use mathlib.Core.List.{List, map}
 use lib.ListN.{length, take}
+use Rattle.limits.specs.Limits.{maxRows, positions, maxTerms}
 use Rattle.term.specs.declared.Term.{Term}
 use Rattle.elimination.specs.Rows.{WellFormed, EachRow}
 use Rattle.eliminate.specs.declared.row.Row.{Row}
@@ -19,8 +20,9 @@ rowTerms r = take (r .count) (r .terms)
 unfoldable pub rowsTerms : Rows → List (List Term)
 rowsTerms rows = map rowTerms (take (rows .m) (rows .rows))
 
--- what a step needs of rows: at most 8 rows of at most 64 terms, each in order, with exponents below 16 and symbols below the next one
+-- what a step needs of rows: their number and the terms of each are within the limits, and each is in order, with exponents below the
+-- positions and symbols below the next one
 pub record Ready (symbol : ℕ) (rows : List (List Term)) : Type 0 where
-  pub few : length rows ≤ 8
-  pub short : EachRow (λ r. length r ≤ 64) rows
-  pub well-formed : EachRow (WellFormed 16 symbol) rows
+  pub few : length rows ≤ maxRows
+  pub short : EachRow (λ r. length r ≤ maxTerms) rows
+  pub well-formed : EachRow (WellFormed positions symbol) rows

@@ -17,8 +17,8 @@ pub record StepAnswer : Type 0 where
   pub divisor : Divisor
   pub replaced : ℕ
 
-abbrev pub answerOf : Stepped → StepAnswer
-answerOf s = record { rows = rowsTerms (s .rows); divisor = s .divisor; replaced = s .replaced }
+abbrev pub stepAnswerOf : Stepped → StepAnswer
+stepAnswerOf s = record { rows = rowsTerms (s .rows); divisor = s .divisor; replaced = s .replaced }
 
 -- each step picks the highest score, ties by document 01's order; if that is below 2, elimination ends: the rows stay, and no pair is
 -- replaced

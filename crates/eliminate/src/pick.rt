@@ -8,6 +8,7 @@ use term::Term;
 ghost use mathlib.Core.Path.{_≡_};
 ghost use Prim.Native.Nat.{_+_, _<_, _≤_};
 ghost use lib.ListN.{length, drop, getD};
+ghost use Rattle.limits.specs.Limits.{maxRows, positions};
 ghost use Rattle.elimination.specs.Rows.{Precedes, Ascending};
 ghost use Rattle.elimination.specs.Divisors.{divisorOf, pairsWith, pairsOf};
 ghost use Rattle.elimination.specs.Elimination.{before, better, noPairs, allPairs};
@@ -82,8 +83,8 @@ fn better_of(s: Best, t: Best) -> Best
 
 // The divisor of two terms of a row with its score in the first m rows.
 fn scored(signs: &[u8; SIZE], m: usize, t: Term, u: Term) -> Best
-    requires { ⌜ (m ≤ 8) × Precedes t u ⌝ }
-    ensures { λ r. ⌜ scoredOf r ≡ lookupScored 16 (rowsSignsFrom 260 16 (now (signs .entry)) 0 m) (divisorOf (record { first = t; second = u })) ⌝ }
+    requires { ⌜ (m ≤ maxRows) × Precedes t u ⌝ }
+    ensures { λ r. ⌜ scoredOf r ≡ lookupScored positions (rowsSignsFrom (now (signs .entry)) 0 m) (divisorOf (record { first = t; second = u })) ⌝ }
 {
     let divisor = divisor_of(t, u);
     let n = score::score(signs, m, divisor);
@@ -92,8 +93,8 @@ fn scored(signs: &[u8; SIZE], m: usize, t: Term, u: Term) -> Best
 
 // The best of what is found so far and the pairs of the term at i with each behind it.
 fn best_with(signs: &[u8; SIZE], m: usize, row: Row, i: usize, start: Best) -> Best
-    requires { ⌜ (m ≤ 8) × Ascending (rowTerms row) × (i < length (rowTerms row)) ⌝ }
-    ensures { λ r. ⌜ scoredOf r ≡ lookupBest 16 before (rowsSignsFrom 260 16 (now (signs .entry)) 0 m) (scoredOf start) (pairsWith (getD (rowTerms row) i noTerm) (drop (i + 1) (rowTerms row))) ⌝ }
+    requires { ⌜ (m ≤ maxRows) × Ascending (rowTerms row) × (i < length (rowTerms row)) ⌝ }
+    ensures { λ r. ⌜ scoredOf r ≡ lookupBest positions before (rowsSignsFrom (now (signs .entry)) 0 m) (scoredOf start) (pairsWith (getD (rowTerms row) i noTerm) (drop (i + 1) (rowTerms row))) ⌝ }
 {
     let count = row.count();
     let t = row.term(i);
@@ -109,8 +110,8 @@ fn best_with(signs: &[u8; SIZE], m: usize, row: Row, i: usize, start: Best) -> B
 
 // And all pairs of a row.
 fn best_in_row(signs: &[u8; SIZE], m: usize, row: Row, start: Best) -> Best
-    requires { ⌜ (m ≤ 8) × Ascending (rowTerms row) ⌝ }
-    ensures { λ r. ⌜ scoredOf r ≡ lookupBest 16 before (rowsSignsFrom 260 16 (now (signs .entry)) 0 m) (scoredOf start) (pairsOf (rowTerms row)) ⌝ }
+    requires { ⌜ (m ≤ maxRows) × Ascending (rowTerms row) ⌝ }
+    ensures { λ r. ⌜ scoredOf r ≡ lookupBest positions before (rowsSignsFrom (now (signs .entry)) 0 m) (scoredOf start) (pairsOf (rowTerms row)) ⌝ }
 {
     let count = row.count();
     let mut best = start;
@@ -138,8 +139,8 @@ fn no_pairs() -> Best
 
 // And all pairs of all rows.
 pub fn best_in_rows(signs: &[u8; SIZE], rows: Rows) -> Best
-    requires { ⌜ (length (rowsTerms rows) ≤ 8) × Placed 260 16 (rowsTerms rows) ⌝ }
-    ensures { λ r. ⌜ scoredOf r ≡ lookupBest 16 before (rowsSignsFrom 260 16 (now (signs .entry)) 0 (length (rowsTerms rows))) noPairs (allPairs (rowsTerms rows)) ⌝ }
+    requires { ⌜ (length (rowsTerms rows) ≤ maxRows) × Placed (rowsTerms rows) ⌝ }
+    ensures { λ r. ⌜ scoredOf r ≡ lookupBest positions before (rowsSignsFrom (now (signs .entry)) 0 (length (rowsTerms rows))) noPairs (allPairs (rowsTerms rows)) ⌝ }
 {
     let m = rows.m();
     let mut best = no_pairs();

@@ -1,21 +1,23 @@
-// Document 01, "Digits and terms": a row of terms, by value. Rests on `term`, `digits` and `lookup`.
+// Document 01, "Digits and terms": a row of terms, by value. Rests on `limits`, `term`, `digits` and `lookup`.
 // The fields are private, so that nothing makes a row but its methods.
-use digits::POSITIONS;
+use limits::MAX_TERMS;
+use limits::POSITIONS;
 use lookup::Found;
 use lookup::lookup_among;
 use term::Term;
 ghost use mathlib.Core.Path.{_≡_};
 ghost use mathlib.Core.List.{[], _∷_, _++_};
-ghost use Prim.Native.Nat.{_<_, _≤_};
+ghost use Prim.Native.Nat.{_-_, _<_, _≤_};
 ghost use lib.ListN.{length, getD};
+ghost use Rattle.limits.specs.Limits.{positions, maxDigits, maxTerms, termSymbols};
 ghost use Rattle.digits.specs.Digits.{digits};
 ghost use Rattle.elimination.specs.Rows.{columnTerms};
 ghost use Rattle.lookup.specs.Found.{foundIn};
 ghost use Rattle.eliminate.specs.State.{noTerm, rowTerms};
 
-// At most 8 columns of at most 8 nonzero digits.
+// At most MAX_TERMS terms: the nonzero digits of the columns.
 pub struct Row {
-    terms: [Term; 64],
+    terms: [Term; MAX_TERMS],
     count: usize,
 }
 
@@ -25,13 +27,13 @@ impl Row {
     {
         let t = Term::new(0, 0, false);
         Row {
-            terms: [t; 64],
+            terms: [t; MAX_TERMS],
             count: 0,
         }
     }
 
     pub fn push(self, t: Term) -> Row
-        requires { ⌜ length (rowTerms self) < 64 ⌝ }
+        requires { ⌜ length (rowTerms self) < maxTerms ⌝ }
         ensures { λ r. ⌜ rowTerms r ≡ rowTerms self ++ (t ∷ []) ⌝ }
     {
         let mut row = self;
@@ -41,11 +43,15 @@ impl Row {
         row
     }
 
-    // No method makes a count above 64.
+    // No method makes a count above MAX_TERMS.
     pub fn count(self) -> usize
         ensures { λ r. ⌜ r ≡ length (rowTerms self) ⌝ }
     {
-        if self.count < 64 { self.count } else { 64 }
+        if self.count < MAX_TERMS {
+            self.count
+        } else {
+            MAX_TERMS
+        }
     }
 
     pub fn term(self, i: usize) -> Term
@@ -66,7 +72,7 @@ impl Row {
 
     // The term of a digit, if it is not 0.
     fn with_digit(self, column: u16, position: usize, digit: i8) -> Row
-        requires { ⌜ (column ≤ 259) × (position < 16) × (length (rowTerms self ++ columnTerms column position (digit ∷ [])) ≤ 64) ⌝ }
+        requires { ⌜ (column < termSymbols) × (position < positions) × (length (rowTerms self ++ columnTerms column position (digit ∷ [])) ≤ maxTerms) ⌝ }
         ensures { λ r. ⌜ rowTerms r ≡ rowTerms self ++ columnTerms column position (digit ∷ []) ⌝ }
     {
         if digit == 0 {
@@ -76,10 +82,10 @@ impl Row {
         self.push(t)
     }
 
-    // The terms of a coefficient's digits in its column; at most 8 digits are not 0.
+    // The terms of a coefficient's digits in its column; at most half of them are not 0.
     pub fn with_column(self, column: u16, z: i16) -> Row
-        requires { ⌜ (column ≤ 259) × (length (rowTerms self) ≤ 56) ⌝ }
-        ensures { λ r. ⌜ rowTerms r ≡ rowTerms self ++ columnTerms column 0 (digits 16 z) ⌝ }
+        requires { ⌜ (column < termSymbols) × (length (rowTerms self) ≤ maxTerms - maxDigits) ⌝ }
+        ensures { λ r. ⌜ rowTerms r ≡ rowTerms self ++ columnTerms column 0 (digits positions z) ⌝ }
     {
         let ds = digits::digits(z);
         let mut row = self;

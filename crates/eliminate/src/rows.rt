@@ -1,15 +1,17 @@
-// Document 01, "Elimination": the rows state, by value. Rests on `row`.
+// Document 01, "Elimination": the rows state, by value. Rests on `limits` and `row`.
 // The fields are private, so that nothing makes a rows state but its methods.
 use crate::row::Row;
+use limits::MAX_ROWS;
 ghost use mathlib.Core.Path.{_≡_};
 ghost use mathlib.Core.List.{[], _∷_, _++_};
 ghost use Prim.Native.Nat.{_<_};
 ghost use lib.ListN.{length, getD};
+ghost use Rattle.limits.specs.Limits.{maxRows};
 ghost use Rattle.eliminate.specs.State.{rowTerms, rowsTerms};
 
-// At most 8 rows.
+// At most MAX_ROWS rows.
 pub struct Rows {
-    rows: [Row; 8],
+    rows: [Row; MAX_ROWS],
     m: usize,
 }
 
@@ -19,13 +21,13 @@ impl Rows {
     {
         let row = Row::empty();
         Rows {
-            rows: [row; 8],
+            rows: [row; MAX_ROWS],
             m: 0,
         }
     }
 
     pub fn with_row(self, row: Row) -> Rows
-        requires { ⌜ length (rowsTerms self) < 8 ⌝ }
+        requires { ⌜ length (rowsTerms self) < maxRows ⌝ }
         ensures { λ r. ⌜ rowsTerms r ≡ rowsTerms self ++ (rowTerms row ∷ []) ⌝ }
     {
         let mut rows = self;
@@ -35,11 +37,11 @@ impl Rows {
         rows
     }
 
-    // No method makes an m above 8.
+    // No method makes an m above MAX_ROWS.
     pub fn m(self) -> usize
         ensures { λ r. ⌜ r ≡ length (rowsTerms self) ⌝ }
     {
-        if self.m < 8 { self.m } else { 8 }
+        if self.m < MAX_ROWS { self.m } else { MAX_ROWS }
     }
 
     pub fn row(self, i: usize) -> Row

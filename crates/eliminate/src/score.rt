@@ -1,11 +1,12 @@
-// Document 01, "Elimination": what is taken of a divisor, co-divisor by co-divisor, and its score. Rests on `signs`.
+// Document 01, "Elimination": what is taken of a divisor, co-divisor by co-divisor, and its score. Rests on `limits` and `signs`.
 use crate::signs;
 use crate::signs::SIZE;
-use digits::POSITIONS;
 use elimination::Divisor;
+use limits::POSITIONS;
 ghost use mathlib.Core.Path.{_≡_};
 ghost use mathlib.Core.Bool.{not, _&&_};
 ghost use Prim.Native.Nat.{_+_, _<_, _≤_, max};
+ghost use Rattle.limits.specs.Limits.{maxRows, positions};
 ghost use Rattle.elimination.specs.Lookup.{occursAt, overlapsTaken, takenFlags, countTrue, lookupScore};
 ghost use Rattle.eliminate.specs.Signs.{tableSigns, rowsSignsFrom};
 
@@ -17,8 +18,8 @@ pub struct Taken {
 
 // Both terms are there, and their signs differ exactly where the divisor's is minus.
 fn occurs(signs: &[u8; SIZE], row: usize, d: Divisor, c: usize) -> bool
-    requires { ⌜ (row < 8) × (c < 16) ⌝ }
-    ensures { λ r. ⌜ r ≡ occursAt (tableSigns 260 16 (now (signs .entry)) row) d c ⌝ }
+    requires { ⌜ (row < maxRows) × (c < positions) ⌝ }
+    ensures { λ r. ⌜ r ≡ occursAt (tableSigns (now (signs .entry)) row) d c ⌝ }
 {
     let x = signs::sign_at(signs, row, d.a, d.ea as usize + c);
     if x == 0 {
@@ -36,7 +37,7 @@ fn occurs(signs: &[u8; SIZE], row: usize, d: Divisor, c: usize) -> bool
 
 // An earlier occurrence that is taken has this one's first term as its second.
 fn overlaps(flags: [bool; POSITIONS], d: Divisor, c: usize) -> bool
-    requires { ⌜ c < 16 ⌝ }
+    requires { ⌜ c < positions ⌝ }
     ensures { λ r. ⌜ r ≡ overlapsTaken d flags c ⌝ }
 {
     if d.a != d.b {
@@ -51,8 +52,8 @@ fn overlaps(flags: [bool; POSITIONS], d: Divisor, c: usize) -> bool
 
 // An occurrence is taken if it overlaps none taken before.
 fn takes(signs: &[u8; SIZE], row: usize, d: Divisor, flags: [bool; POSITIONS], c: usize) -> bool
-    requires { ⌜ (row < 8) × (c < 16) ⌝ }
-    ensures { λ r. ⌜ r ≡ occursAt (tableSigns 260 16 (now (signs .entry)) row) d c && not (overlapsTaken d flags c) ⌝ }
+    requires { ⌜ (row < maxRows) × (c < positions) ⌝ }
+    ensures { λ r. ⌜ r ≡ occursAt (tableSigns (now (signs .entry)) row) d c && not (overlapsTaken d flags c) ⌝ }
 {
     if occurs(signs, row, d, c) {
         return !overlaps(flags, d, c);
@@ -60,9 +61,9 @@ fn takes(signs: &[u8; SIZE], row: usize, d: Divisor, flags: [bool; POSITIONS], c
     false
 }
 
-// How many co-divisors leave both exponents below 16: past them nothing occurs.
+// How many co-divisors leave both exponents below POSITIONS: past them nothing occurs.
 fn co_divisors(d: Divisor) -> usize
-    ensures { λ r. ⌜ (r ≤ 16) × (16 ≤ r + max (d .ea) (d .eb)) ⌝ }
+    ensures { λ r. ⌜ (r ≤ positions) × (positions ≤ r + max (d .ea) (d .eb)) ⌝ }
 {
     let higher = if d.ea < d.eb { d.eb } else { d.ea };
     let higher = higher as usize;
@@ -74,8 +75,8 @@ fn co_divisors(d: Divisor) -> usize
 
 // The occurrences in a row are visited by ascending co-divisor.
 pub fn taken_in_row(signs: &[u8; SIZE], row: usize, d: Divisor) -> Taken
-    requires { ⌜ row < 8 ⌝ }
-    ensures { λ r. ⌜ (r .flags ≡ takenFlags (tableSigns 260 16 (now (signs .entry)) row) d 16) × (r .count ≡ countTrue (takenFlags (tableSigns 260 16 (now (signs .entry)) row) d 16)) ⌝ }
+    requires { ⌜ row < maxRows ⌝ }
+    ensures { λ r. ⌜ (r .flags ≡ takenFlags (tableSigns (now (signs .entry)) row) d positions) × (r .count ≡ countTrue (takenFlags (tableSigns (now (signs .entry)) row) d positions)) ⌝ }
 {
     let limit = co_divisors(d);
     let mut flags = [false; POSITIONS];
@@ -94,8 +95,8 @@ pub fn taken_in_row(signs: &[u8; SIZE], row: usize, d: Divisor) -> Taken
 
 // The score in the first m rows.
 pub fn score(signs: &[u8; SIZE], m: usize, d: Divisor) -> usize
-    requires { ⌜ m ≤ 8 ⌝ }
-    ensures { λ r. ⌜ r ≡ lookupScore 16 (rowsSignsFrom 260 16 (now (signs .entry)) 0 m) d ⌝ }
+    requires { ⌜ m ≤ maxRows ⌝ }
+    ensures { λ r. ⌜ r ≡ lookupScore positions (rowsSignsFrom (now (signs .entry)) 0 m) d ⌝ }
 {
     let mut n = 0;
     let mut i = 0;

@@ -1,22 +1,23 @@
-// Document 01, "Elimination": the step. Rests on `pick`.
+// Document 01, "Elimination": the step. Rests on `limits` and `pick`.
 use crate::pick;
 use crate::row::Row;
 use crate::rows::Rows;
 use crate::score;
 use crate::signs;
 use crate::signs::SIZE;
-use digits::POSITIONS;
 use elimination::Divisor;
+use limits::POSITIONS;
 use term::Term;
 ghost use mathlib.Core.Path.{_≡_};
 ghost use mathlib.Core.List.{_++_};
 ghost use Prim.Native.Nat.{_<_, _≤_};
 ghost use lib.ListN.{length};
+ghost use Rattle.limits.specs.Limits.{maxRows, positions, maxTerms, termSymbols};
 ghost use Rattle.elimination.specs.Lookup.{partAs, partOfTaken, keptTerms, signAt, lookupTerm, lookupTermsFrom, Proper};
 ghost use Rattle.elimination.specs.Elimination.{rowsAfter};
 ghost use Rattle.eliminate.specs.State.{rowTerms, rowsTerms, Ready};
 ghost use Rattle.eliminate.specs.Signs.{Within, tableSigns, signTable};
-ghost use Rattle.eliminate.specs.Step.{rowAfterBy, answerOf, stepAnswer};
+ghost use Rattle.eliminate.specs.Step.{rowAfterBy, stepAnswerOf, stepAnswer};
 
 // The rows after a step, its divisor and the number of pairs replaced: 0 where elimination has ended, and the rows are as they were.
 pub struct Stepped {
@@ -27,7 +28,7 @@ pub struct Stepped {
 
 // A term of the symbol, whose exponent is that of a taken co-divisor above the given one.
 fn part_as(symbol: u16, exponent: u8, flags: [bool; POSITIONS], t: Term) -> bool
-    requires { ⌜ t .exponent < 16 ⌝ }
+    requires { ⌜ t .exponent < positions ⌝ }
     ensures { λ r. ⌜ r ≡ partAs symbol exponent flags t ⌝ }
 {
     if t.symbol() != symbol {
@@ -43,7 +44,7 @@ fn part_as(symbol: u16, exponent: u8, flags: [bool; POSITIONS], t: Term) -> bool
 
 // A term is part of a taken occurrence, as its first or its second term.
 fn part_of_taken(d: Divisor, flags: [bool; POSITIONS], t: Term) -> bool
-    requires { ⌜ t .exponent < 16 ⌝ }
+    requires { ⌜ t .exponent < positions ⌝ }
     ensures { λ r. ⌜ r ≡ partOfTaken d flags t ⌝ }
 {
     if part_as(d.a, d.ea, flags, t) {
@@ -54,7 +55,7 @@ fn part_of_taken(d: Divisor, flags: [bool; POSITIONS], t: Term) -> bool
 
 // The terms that are part of no taken occurrence.
 fn kept(d: Divisor, flags: [bool; POSITIONS], row: Row) -> Row
-    requires { ⌜ Within 260 16 (rowTerms row) × (length (rowTerms row) ≤ 64) ⌝ }
+    requires { ⌜ Within (rowTerms row) × (length (rowTerms row) ≤ maxTerms) ⌝ }
     ensures { λ r. ⌜ rowTerms r ≡ keptTerms d flags (rowTerms row) ⌝ }
 {
     let count = row.count();
@@ -72,7 +73,7 @@ fn kept(d: Divisor, flags: [bool; POSITIONS], row: Row) -> Row
 
 // The sign of an occurrence is that of its first term, which the row has.
 fn new_term(row: Row, symbol: u16, d: Divisor, c: usize) -> Term
-    requires { ⌜ (symbol ≤ 259) × (c < 16) ⌝ }
+    requires { ⌜ (symbol < termSymbols) × (c < positions) ⌝ }
     ensures { λ r. ⌜ r ≡ lookupTerm symbol (signAt (rowTerms row)) d c ⌝ }
 {
     let first = row.lookup(d.a, d.ea as usize + c);
@@ -81,7 +82,7 @@ fn new_term(row: Row, symbol: u16, d: Divisor, c: usize) -> Term
 
 // Each taken pair of a row becomes one term: the new symbol, the co-divisor, the occurrence's sign. The new terms stand behind those that are kept.
 fn with_new_terms(row: Row, symbol: u16, d: Divisor, flags: [bool; POSITIONS], rest: Row) -> Row
-    requires { ⌜ (symbol ≤ 259) × (length (rowTerms rest ++ lookupTermsFrom symbol (signAt (rowTerms row)) d 0 flags) ≤ 64) ⌝ }
+    requires { ⌜ (symbol < termSymbols) × (length (rowTerms rest ++ lookupTermsFrom symbol (signAt (rowTerms row)) d 0 flags) ≤ maxTerms) ⌝ }
     ensures { λ r. ⌜ rowTerms r ≡ rowTerms rest ++ lookupTermsFrom symbol (signAt (rowTerms row)) d 0 flags ⌝ }
 {
     let mut out = rest;
@@ -98,8 +99,8 @@ fn with_new_terms(row: Row, symbol: u16, d: Divisor, flags: [bool; POSITIONS], r
 
 // The new symbol is the largest, so the new terms stand last.
 fn row_after(signs: &[u8; SIZE], i: usize, symbol: u16, d: Divisor, row: Row) -> Row
-    requires { ⌜ (i < 8) × (symbol ≤ 259) × Within 260 16 (rowTerms row) × (length (rowTerms row) ≤ 64) × (length (rowAfterBy 16 symbol d (tableSigns 260 16 (now signs) i) (rowTerms row)) ≤ 64) ⌝ }
-    ensures { λ r. ⌜ rowTerms r ≡ rowAfterBy 16 symbol d (tableSigns 260 16 (now (signs .entry)) i) (rowTerms row) ⌝ }
+    requires { ⌜ (i < maxRows) × (symbol < termSymbols) × Within (rowTerms row) × (length (rowTerms row) ≤ maxTerms) × (length (rowAfterBy positions symbol d (tableSigns (now signs) i) (rowTerms row)) ≤ maxTerms) ⌝ }
+    ensures { λ r. ⌜ rowTerms r ≡ rowAfterBy positions symbol d (tableSigns (now (signs .entry)) i) (rowTerms row) ⌝ }
 {
     let taken = score::taken_in_row(signs, i, d);
     let flags = taken.flags;
@@ -109,7 +110,7 @@ fn row_after(signs: &[u8; SIZE], i: usize, symbol: u16, d: Divisor, row: Row) ->
 
 // The rows go into a fresh rows state, one by one.
 fn rows_after(signs: &[u8; SIZE], symbol: u16, d: Divisor, rows: Rows) -> Rows
-    requires { ⌜ (now signs ≡ signTable 260 16 8 (rowsTerms rows)) × Ready symbol (rowsTerms rows) × (symbol ≤ 259) × Proper d ⌝ }
+    requires { ⌜ (now signs ≡ signTable (rowsTerms rows)) × Ready symbol (rowsTerms rows) × (symbol < termSymbols) × Proper d ⌝ }
     ensures { λ r. ⌜ rowsTerms r ≡ rowsAfter symbol d (rowsTerms rows) ⌝ }
 {
     let m = rows.m();
@@ -126,8 +127,8 @@ fn rows_after(signs: &[u8; SIZE], symbol: u16, d: Divisor, rows: Rows) -> Rows
 impl Rows {
     // One step, whose divisor gets the given symbol.
     pub fn step(self, symbol: u16) -> Stepped
-        requires { ⌜ Ready symbol (rowsTerms self) × (symbol ≤ 259) ⌝ }
-        ensures { λ r. ⌜ answerOf r ≡ stepAnswer symbol (rowsTerms self) ⌝ }
+        requires { ⌜ Ready symbol (rowsTerms self) × (symbol < termSymbols) ⌝ }
+        ensures { λ r. ⌜ stepAnswerOf r ≡ stepAnswer symbol (rowsTerms self) ⌝ }
     {
         let signs = signs::sign_table(self);
         let best = pick::best_in_rows(&signs, self);

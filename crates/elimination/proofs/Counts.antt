@@ -8,6 +8,8 @@ use native.Mathlib.Omega.{arith}
 use native.Mathlib.Nat.{mul-le-mul}
 use lib.IntN.{ℤ, pos, negsuc}
 use lib.ListN.{length, length-append}
+use Rattle.limits.specs.Limits.{maxRows, maxColumns, positions, maxOperations, maxDigits, maxTerms, maxDivisors}
+use Rattle.limits.proofs.Numbers.{rows-of-terms}
 use Rattle.digits.specs.Digits.{digits, nonzero}
 use Rattle.digits.proofs.Count.{digits-nonzero-half}
 use Rattle.elimination.specs.declared.Divisor.{Divisor}
@@ -70,12 +72,12 @@ unfolding plainCount matrixRows
 matrix-plain half n [] c = omega arith
 matrix-plain half n (zs ∷ m) c = omega (arith, row-count half 0 zs, ap (λ (k : ℕ). half * k) (c .0), matrix-plain half n m (c .1))
 
--- 8 by 8 at the most, 16 positions: the plain count is at most 504
-pub plain-within : (n : ℕ) (m : List (List ℤ)) → Columns n m → n ≤ 8 → length m ≤ 8 → plainCount (matrixRows 16 m) ≤ 504
+-- of a matrix within the limits, the plain count is at most the most operations, and so there are at most the most divisors
+pub plain-within : (n : ℕ) (m : List (List ℤ)) → Columns n m → n ≤ maxColumns → length m ≤ maxRows → plainCount (matrixRows positions m) ≤ maxOperations
 plain-within n m c hn hm =
-    let wide : 8 * n - 1 ≤ 63 = omega arith in
-    omega (arith, matrix-plain 8 n m c, mul-le-mul hm wide)
+    let wide : maxDigits * n - 1 ≤ maxTerms - 1 = omega arith in
+    omega (arith, matrix-plain maxDigits n m c, mul-le-mul hm wide, rows-of-terms)
 
-pub divisors-within : (n : ℕ) (m : List (List ℤ)) → Columns n m → n ≤ 8 → length m ≤ 8 → {symbol : ℕ} {ds : List Divisor} {k : ℕ} {after : List Row}
-    → Steps symbol (matrixRows 16 m) ds k after → length ds ≤ 252
+pub divisors-within : (n : ℕ) (m : List (List ℤ)) → Columns n m → n ≤ maxColumns → length m ≤ maxRows → {symbol : ℕ} {ds : List Divisor} {k : ℕ} {after : List Row}
+    → Steps symbol (matrixRows positions m) ds k after → length ds ≤ maxDivisors
 divisors-within n m c hn hm s = omega (arith, steps-divisors s, plain-within n m c hn hm)

@@ -7,6 +7,7 @@ use mathlib.Core.List.{List, [], _∷_, map}
 use native.Mathlib.Omega.{arith}
 use lib.IntN.{ℤ}
 use lib.ListN.{length}
+use Rattle.limits.specs.Limits.{maxRows, maxColumns, positions, maxDivisors}
 use Rattle.elimination.specs.declared.Divisor.{Divisor}
 use Rattle.elimination.specs.Rows.{Row, Ascending, WellFormed, EachRow, rowValue, matrixRows, plainCount}
 use Rattle.elimination.specs.Divisors.{Pair, overlap, score}
@@ -59,7 +60,7 @@ module _ (order : TieOrder) (positions n : ℕ) (m : List (List ℤ)) where
   pub operations : (plainCount (eliminated .remainingRows) + length (eliminated .divisors)) + eliminated .replacements ≡ plainCount (matrixRows positions m) + length (eliminated .divisors)
   operations = steps-operations steps-of
 
-  -- weights stay, and bound every divisor's: over 16 positions the bound is 43,690
+  -- weights stay, and bound every divisor's
   pub remaining-weight : (w : ℕ → ℕ) → Weights w n (eliminated .divisors) → map (rowWeight w) (eliminated .remainingRows) ≡ map (rowWeight w) (matrixRows positions m)
   remaining-weight w = steps-weight w steps-of
 
@@ -70,8 +71,6 @@ module _ (order : TieOrder) (positions n : ℕ) (m : List (List ℤ)) where
     pub remaining-weight-within : Weights w n (eliminated .divisors) → EachRow (λ r. rowWeight w r ≤ bound) (eliminated .remainingRows)
     remaining-weight-within k = steps-rows-within w bound steps-of k (matrix-weights w positions n own bound m c u h)
 
-pub bound-is : 2 ^ suc 16 ≤ 3 * 43690 + 3
-bound-is = omega arith
-
-pub divisors-at-most : (order : TieOrder) (n : ℕ) (m : List (List ℤ)) → Columns n m → n ≤ 8 → length m ≤ 8 → length (eliminated order 16 n m .divisors) ≤ 252
-divisors-at-most order n m c hn hm = divisors-within n m c hn hm (steps-of order 16 n m)
+-- of a matrix within the limits
+pub divisors-at-most : (order : TieOrder) (n : ℕ) (m : List (List ℤ)) → Columns n m → n ≤ maxColumns → length m ≤ maxRows → length (eliminated order positions n m .divisors) ≤ maxDivisors
+divisors-at-most order n m c hn hm = divisors-within n m c hn hm (steps-of order positions n m)

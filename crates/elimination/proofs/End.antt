@@ -11,10 +11,11 @@ use lib.Dec.{eqb, ltb}
 use lib.IntN.{ℤ}
 use lib.ListN.{length}
 use borrow.Author.Tests.{eqb-true, eqb-false, ltb-true, ltb-false, lt-ltb, le-ltb}
+use Rattle.limits.specs.Limits.{maxRows, maxColumns, positions, maxDivisors}
 use Rattle.elimination.specs.declared.Divisor.{Divisor}
 use Rattle.elimination.specs.Rows.{Row, Ascending, EachRow, matrixRows, plainCount}
 use Rattle.elimination.specs.Divisors.{Pair, overlap, taken, score}
-use Rattle.elimination.specs.Elimination.{TieOrder, Scored, pick, rowsAfter, Eliminated, ended, andThen, eliminate, enoughSteps, elimination}
+use Rattle.elimination.specs.Elimination.{TieOrder, Scored, pick, rowsAfter, Eliminated, ended, stepThen, eliminate, enoughSteps, elimination}
 use Rattle.elimination.specs.Steps.{Steps, end, step}
 use Rattle.elimination.proofs.Tests.{by-bool}
 use Rattle.elimination.proofs.RowOrder.{Occurrence, rowAt}
@@ -33,7 +34,7 @@ module _ (order : TieOrder) (symbol : ℕ) (made : List Divisor) (rows : List Ro
 
   pub eliminate-goes-on : (fuel : ℕ) → 2 ≤ pick (order made) rows .score
       → eliminate order (suc fuel) symbol made rows
-      ≡ andThen (pick (order made) rows)
+      ≡ stepThen (pick (order made) rows)
       (eliminate order fuel (suc symbol) (made ++ (pick (order made) rows .divisor ∷ [])) (rowsAfter symbol (pick (order made) rows .divisor) rows))
   unfolding eliminate
   eliminate-goes-on fuel h = rw (le-ltb (pick (order made) rows .score) 2 h, eliminate)
@@ -42,7 +43,7 @@ module _ (order : TieOrder) (symbol : ℕ) (made : List Divisor) (rows : List Ro
 
 one-more : (symbol : ℕ) (rows : List Row) (best : Scored) (l : Eliminated) → 2 ≤ best .score → best .score ≡ score (best .divisor) rows
     → Steps (suc symbol) (rowsAfter symbol (best .divisor) rows) (l .divisors) (l .replacements) (l .remainingRows)
-    → Steps symbol rows (andThen best l .divisors) (andThen best l .replacements) (andThen best l .remainingRows)
+    → Steps symbol rows (stepThen best l .divisors) (stepThen best l .replacements) (stepThen best l .remainingRows)
 one-more symbol rows best l h e s =
     subst (λ (k : ℕ). Steps symbol rows (best .divisor ∷ l .divisors) (k + l .replacements) (l .remainingRows)) (sym e) (step (best .divisor) (omega arith) s)
 
@@ -105,7 +106,7 @@ module _ (order : TieOrder) where
       let best : Scored = pick (order made) rows in
       let g : 2 ≤ best .score = ltb-false (best .score) 2 e in
       eliminate-goes-on order symbol made rows j g
-      ∙ ap (andThen best) (enough-fuel j k (suc symbol) (made ++ (best .divisor ∷ [])) (rowsAfter symbol (best .divisor) rows)
+      ∙ ap (stepThen best) (enough-fuel j k (suc symbol) (made ++ (best .divisor ∷ [])) (rowsAfter symbol (best .divisor) rows)
       (less-plain symbol made rows j g h) (less-plain symbol made rows k g l))
       ∙ sym (eliminate-goes-on order symbol made rows k g))
 
@@ -116,7 +117,7 @@ module _ (order : TieOrder) where
   pub from-goes-on : (symbol : ℕ) (made : List Divisor) (rows : List Row) → 2 ≤ pick (order made) rows .score
       → (let best : Scored = pick (order made) rows in
       let next : List Row = rowsAfter symbol (best .divisor) rows in
-      eliminate order (plainCount rows) symbol made rows ≡ andThen best (eliminate order (plainCount next) (suc symbol) (made ++ (best .divisor ∷ [])) next))
+      eliminate order (plainCount rows) symbol made rows ≡ stepThen best (eliminate order (plainCount next) (suc symbol) (made ++ (best .divisor ∷ [])) next))
   from-goes-on symbol made rows h =
       let best : Scored = pick (order made) rows in
       let next : List Row = rowsAfter symbol (best .divisor) rows in
@@ -124,7 +125,7 @@ module _ (order : TieOrder) where
       let g : best .score ≡ score (best .divisor) rows = pick-score (order made) rows h in
       enough-fuel (plainCount rows) (suc (plainCount rows)) symbol made rows (omega arith) (omega arith)
       ∙ eliminate-goes-on order symbol made rows (plainCount rows) h
-      ∙ ap (andThen best) (enough-fuel (plainCount rows) (plainCount next) (suc symbol) (made ++ (best .divisor ∷ [])) next (omega arith) (omega arith))
+      ∙ ap (stepThen best) (enough-fuel (plainCount rows) (plainCount next) (suc symbol) (made ++ (best .divisor ∷ [])) next (omega arith) (omega arith))
 
   -- ---- the whole of it
 
@@ -146,12 +147,12 @@ module _ (order : TieOrder) where
       (λ e. ltb-true (pick first rest .score) 2 e)
       (λ e. absurd (omega (arith, ltb-false (pick first rest .score) 2 e, pick-score first rest (ltb-false (pick first rest .score) 2 e), elimination-ended inputs rows (pick first rest .divisor))))
 
-  -- within 252 steps, for 8 by 8 at the most and 16 positions
-  pub elimination-within : (n : ℕ) (m : List (List ℤ)) → Columns n m → n ≤ 8 → length m ≤ 8
-      → elimination order n (matrixRows 16 m) ≡ eliminate order 252 n [] (matrixRows 16 m)
+  -- of a matrix within the limits, within as many steps as there are divisors at most
+  pub elimination-within : (n : ℕ) (m : List (List ℤ)) → Columns n m → n ≤ maxColumns → length m ≤ maxRows
+      → elimination order n (matrixRows positions m) ≡ eliminate order maxDivisors n [] (matrixRows positions m)
   unfolding elimination
   elimination-within n m c hn hm =
-      enough-fuel (enoughSteps (matrixRows 16 m)) 252 n [] (matrixRows 16 m) (omega arith) (omega (arith, plain-within n m c hn hm))
+      enough-fuel (enoughSteps (matrixRows positions m)) maxDivisors n [] (matrixRows positions m) (omega arith) (omega (arith, plain-within n m c hn hm))
 
 -- ---- where every score is below 2, any two occurrences of one divisor overlap: they are in the same row and share a term
 

@@ -1,5 +1,5 @@
 -- What the matrix's rows stand for: each has the value of its coefficients times the symbols' values, and for each column a weight
--- of at most a third of 2^(positions + 1), that is 43,690 over 16 positions. So no divisor has a larger coefficient.
+-- of at most a third of 2^(positions + 1). So no divisor has a larger coefficient.
 -- Assumes nothing.
 use Prim.Native.Nat.{ℕ, zero, suc, _+_, _*_, _^_, _≤_, _<_}
 use mathlib.Core.Path.{_≡_, refl, sym, _∙_, ap, ap₂}
@@ -40,7 +40,7 @@ minus-digit (suc d) h x s y = absurd (omega arith)
 no-digit : (x s y : ℤ) → s *ℤ y ≡ (pos 0 *ℤ x +ℤ s) *ℤ y
 no-digit x s y = equal (at s ⊗ at y) ((nat 0 ⊗ at x ⊕ at s) ⊗ at y) (omega arith)
 
--- coefficients that the positions are enough for: with 16, all from −32,768 to 32,767
+-- coefficients that the positions are enough for: with P of them, all from −2^(P − 1) to 2^(P − 1)
 abbrev pub Enough : ℕ → List ℤ → Type 0
 Enough positions [] = Unit {0}
 Enough positions (z ∷ zs) = (3 * natAbs z ≤ 2 ^ suc positions) × Enough positions zs

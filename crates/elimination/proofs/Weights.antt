@@ -1,5 +1,5 @@
 -- A row's weight stays as it was, and each divisor, shifted, is part of a row: so no divisor's weight is above the bound of the
--- first rows, which is 43,690 for a column of a matrix over 16 positions. Values are at most as large as weights.
+-- first rows. Values are at most as large as weights.
 -- Assumes nothing.
 use Prim.Native.Nat.{ℕ, suc, _+_, _*_, _-_, _^_, _≤_}
 use mathlib.Core.Path.{_≡_, refl, sym, _∙_, ap, ap₂}

@@ -108,8 +108,9 @@ pub record Eliminated : Type 0 where
 abbrev pub ended : List Row → Eliminated
 ended rows = record { divisors = []; replacements = 0; remainingRows = rows }
 
-abbrev pub andThen : Scored → Eliminated → Eliminated
-andThen s e = record { divisors = s .divisor ∷ e .divisors; replacements = s .score + e .replacements; remainingRows = e .remainingRows }
+-- a step, then the rest
+abbrev pub stepThen : Scored → Eliminated → Eliminated
+stepThen s e = record { divisors = s .divisor ∷ e .divisors; replacements = s .score + e .replacements; remainingRows = e .remainingRows }
 
 -- from the rows after the divisors made so far, with the next symbol; at most fuel steps
 unfoldable pub eliminate : TieOrder → ℕ → ℕ → List Divisor → List Row → Eliminated
@@ -119,7 +120,7 @@ eliminate order (suc fuel) symbol made rows =
     let best : Scored = pick (order made) rows in
     elim (ltb (best .score) 2) [
       | true ↦ ended rows
-      | false ↦ andThen best (eliminate order fuel (suc symbol) (made ++ (best .divisor ∷ [])) (rowsAfter symbol (best .divisor) rows))
+      | false ↦ stepThen best (eliminate order fuel (suc symbol) (made ++ (best .divisor ∷ [])) (rowsAfter symbol (best .divisor) rows))
     ]
 
 -- a step takes at least two terms away, so there are fewer steps than the plain count

@@ -1,10 +1,12 @@
 // Document 01, "A row lists its terms in ascending order of symbol, then exponent": the lookup of a symbol and exponent over a lent slice of terms.
-// Rests on `term`, and on `signAt` of `elimination`.
+// Rests on `limits`, on `term`, and on `signAt` of `elimination`.
+use limits::MAX_TERMS;
 use term::Term;
 ghost use mathlib.Core.Path.{_≡_};
 ghost use mathlib.Core.List.{[], _∷_};
 ghost use Prim.Native.Nat.{_≤_};
 ghost use lib.ListN.{take};
+ghost use Rattle.limits.specs.Limits.{maxTerms};
 ghost use Rattle.elimination.specs.Lookup.{signNumber, signAt};
 ghost use Rattle.lookup.specs.Found.{foundIn};
 
@@ -51,8 +53,8 @@ pub fn lookup(terms: &[Term], symbol: u16, exponent: usize) -> Found
 }
 
 // The lookup among the first terms of an array, which are lent for it.
-pub fn lookup_among(terms: [Term; 64], count: usize, symbol: u16, exponent: usize) -> Found
-    requires { ⌜ count ≤ 64 ⌝ }
+pub fn lookup_among(terms: [Term; MAX_TERMS], count: usize, symbol: u16, exponent: usize) -> Found
+    requires { ⌜ count ≤ maxTerms ⌝ }
     ensures { λ r. ⌜ r ≡ foundIn (take count terms) symbol exponent ⌝ }
 {
     lookup(&terms[..count], symbol, exponent)

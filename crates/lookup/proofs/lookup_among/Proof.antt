@@ -43,6 +43,7 @@ use denote.Triple.Table.{entered, cited}
 use denote.Triple.Walked.{says, needs, Stays, stay-none, walkOf, goes-none, Walks, ends-at, walked, walk-meets}
 use denote.Exit.{yes}
 use denote.Triple.Clauses.{ensured, lasts}
+use Rattle.limits.specs.Limits.{maxTerms}
 use Rattle.term.specs.declared.Term.{Term}
 use Rattle.term.proofs.Term as T
 use Rattle.term.proofs.Term.Laws as T′
@@ -60,9 +61,9 @@ use Rattle.lookup.proofs.lookup_among as among
 use Rattle.lookup.proofs.lookup_among.Statement as stated
 use Rattle.lookup.proofs.lookup_among.Code as code
 
--- an array of 64 terms, and its machine value
+-- an array of as many terms as a row has at most, and its machine value
 abbrev Terms : RattleType
-Terms = Array T.the-row 64
+Terms = Array T.the-row maxTerms
 
 abbrev vals : List Term → List Val
 vals = array-vals (LL.vals T.the-type T′.the-laws)
@@ -83,7 +84,7 @@ module _ {M : Type 1} (𝓤 : URA M) (H : Heap 𝓤) (A : Atoms 𝓤) (mem : Mem
   lookup-said κ x s e r = exE 𝓤 _ (λ ws. snd∗ 𝓤 (sem 𝓤 H A (lasts lookup.ended (κ, tt) (x, (s, (e, tt))) ws)) (fact 𝓤 (r ≡ foundIn (x .now) s e)))
 
 module _ {M : Type 1} (𝓤 : URA M) (H : Heap 𝓤) (A : Atoms 𝓤) (W : Given 𝓤 H A) (mem : Memory → SProp 𝓤) (run : Routine → Fun 𝓤)
-    (ts : List Term) (c s e : ℕ) (is : Is Terms ts (vals ts)) (gc : c < 2 ^ 64) (gs : s < 2 ^ 16) (ge : e < 2 ^ 64) (few : c ≤ 64) where
+    (ts : List Term) (c s e : ℕ) (is : Is Terms ts (vals ts)) (gc : c < 2 ^ 64) (gs : s < 2 ^ 16) (ge : e < 2 ^ 64) (few : c ≤ maxTerms) where
   abbrev at : Vals among.signature tt
   at = (vals ts, (vint w64 c ∷ [], (vint w16 s ∷ [], (vint w64 e ∷ [], tt))))
 
@@ -106,20 +107,20 @@ module _ {M : Type 1} (𝓤 : URA M) (H : Heap 𝓤) (A : Atoms 𝓤) (W : Given
       suffices ! _ (ends-at 𝓤 H A among.ended stayed (among.clauses 𝓤 H A mem run) W bound u r (tt, (tt, (tt, (tt, tt)))) (tt, (tt, (tt, (tt, tt))))) $ says ! said $
       nothing ! $ frame ! $
       nothing ! $ owned ! usize (Is usize) (uint-makes 𝓤 H A W w64) e _ (refl, ge) $ fjoin ! $ owned ! u16 (Is u16) (uint-makes 𝓤 H A W w16) s _ (refl, gs) $ fjoin ! $
-      owned ! usize (Is usize) (uint-makes 𝓤 H A W w64) c _ (refl, gc) $ fjoin ! $ owned ! Terms (Is Terms) (array-makes 𝓤 H A W T.the-row (LL.makes T.the-type T′.the-plain 𝓤 H A) 64) ts _ is $ fjoin ! $ frame ! $
+      owned ! usize (Is usize) (uint-makes 𝓤 H A W w64) c _ (refl, gc) $ fjoin ! $ owned ! Terms (Is Terms) (array-makes 𝓤 H A W T.the-row (LL.makes T.the-type T′.the-plain 𝓤 H A) maxTerms) ts _ is $ fjoin ! $ frame ! $
       owned ! F.the-row (Is F.the-row) (LL.makes F.the-type F′.the-plain 𝓤 H A) r _ g $ done !
 
   module _ (κ : Lft) (b : ℕ) (γ : GName) where
     -- the slice that is lent, what `lookup` is passed, and what it asks
     abbrev x : RefT (List Term)
-    x = lent 𝓤 H A W T.the-row 64 c ts κ b γ
+    x = lent 𝓤 H A W T.the-row maxTerms c ts κ b γ
 
     abbrev to : Lookup 𝓤 H A mem run .Ghost
     to = (((κ, tt), (fullShare, tt), tt, (x, (s, (e, tt))), (sliceVal (b, 0) (length (take c ts)) ∷ [], (vint w16 s ∷ [], (vint w64 e ∷ [], tt)))), tt)
 
-    asks : ent 𝓤 (sep 𝓤 (sem 𝓤 H A (Slice 𝓤 H A W T.the-row 64 c ts κ b γ)) (A .lft κ fullShare)) (Lookup 𝓤 H A mem run .pre to)
+    asks : ent 𝓤 (sep 𝓤 (sem 𝓤 H A (Slice 𝓤 H A W T.the-row maxTerms c ts κ b γ)) (A .lft κ fullShare)) (Lookup 𝓤 H A mem run .pre to)
     asks =
-        qed W (‵ (Slice 𝓤 H A W T.the-row 64 c ts κ b γ) ∷ ‵ (flft κ fullShare) ∷ []) ∵
+        qed W (‵ (Slice 𝓤 H A W T.the-row maxTerms c ts κ b γ) ∷ ‵ (flft κ fullShare) ∷ []) ∵
         nothing ! $ owned ! usize (Is usize) (uint-makes 𝓤 H A W w64) e _ (refl, ge) $ fjoin ! $ owned ! u16 (Is u16) (uint-makes 𝓤 H A W w16) s _ (refl, gs) $ fjoin ! $ move ! (1 ∷ 0 ∷ []) $ fjoin ! $
         nothing ! $ move ! (2 ∷ 0 ∷ []) $ join ! $ join ! $ frame ! $ done !
 
@@ -130,8 +131,8 @@ module _ {M : Type 1} (𝓤 : URA M) (H : Heap 𝓤) (A : Atoms 𝓤) (W : Given
         alloc1 ! (λ l₀. alloc1 ! (λ l₁. alloc1 ! (λ l₂. alloc1 ! (λ l₃. alloc1 ! (λ l₄. alloc1 ! (λ l₅. alloc1 ! (λ l₆. alloc1 ! (λ l₇. alloc0 ! $ params1 ! $
         pass1 ! (init ! 12 refl typed) $ pass1 ! (init ! 10 refl (tt, record { fits = gc })) $ pass1 ! (init ! 8 refl (tt, record { fits = gs })) $ pass1 ! (init ! 6 refl (tt, record { fits = ge })) $ pass0 ! $ keep ! (0 ∷ 1 ∷ 2 ∷ 3 ∷ 4 ∷ 5 ∷ 6 ∷ 7 ∷ 8 ∷ 9 ∷ 10 ∷ 11 ∷ 12 ∷ 13 ∷ 14 ∷ 15 ∷ []) $
         assigns ! (of-opd ! (load ! (from ! (stop !)) (look ! 12 refl))) (from ! (stop !)) (init ! 4 refl typed) $
-        lft-new ! tt (λ α. move ! (5 ∷ []) $ owned ! Terms (Is Terms) (array-makes 𝓤 H A W T.the-row (LL.makes T.the-type T′.the-plain 𝓤 H A) 64) ts _ is $ move ! (1 ∷ 0 ∷ []) $
-        use2 W (later (some (λ (γ : GName). ‵ (Slice 𝓤 H A W T.the-row 64 c ts (α ∷ []) l₅ γ) ⊛ ‵ (Kept 𝓤 H A W T.the-row 64 c ts (α ∷ []) l₅)))) (lends-front 𝓤 H A W T.the-row 64 c ts (α ∷ []) l₅ tt room (val ts)) $ await ! tt $ pick ! (λ γ. split ! $
+        lft-new ! tt (λ α. move ! (5 ∷ []) $ owned ! Terms (Is Terms) (array-makes 𝓤 H A W T.the-row (LL.makes T.the-type T′.the-plain 𝓤 H A) maxTerms) ts _ is $ move ! (1 ∷ 0 ∷ []) $
+        use2 W (later (some (λ (γ : GName). ‵ (Slice 𝓤 H A W T.the-row maxTerms c ts (α ∷ []) l₅ γ) ⊛ ‵ (Kept 𝓤 H A W T.the-row maxTerms c ts (α ∷ []) l₅)))) (lends-front 𝓤 H A W T.the-row maxTerms c ts (α ∷ []) l₅ tt room (val ts)) $ await ! tt $ pick ! (λ γ. split ! $
         -- [what the slice owns; what is kept; the token; room for _7; …; room for _6; …; that _5 dies; _4; …; _3; …; _2; …; _1; …; room for _0; …]
         assigns ! (addr ! (from ! (stop !))) (from ! (stop !)) (init ! 5 refl (tt, tt)) $
         assigns ! (agg ! (and-then ! (load ! (from ! (stop !)) (look ! 5 refl)) (and-then ! (load ! (from ! (stop !)) (look ! 12 refl)) (no-more !)))) (from ! (stop !)) (init ! 3 refl (tt, (tt, (record { fits = gc }, tt)))) $
@@ -142,20 +143,20 @@ module _ {M : Type 1} (𝓤 : URA M) (H : Heap 𝓤) (A : Atoms 𝓤) (W : Given
         split ! $ move ! (1 ∷ []) $ use1 W (raw (fact 𝓤 (r ≡ foundIn (take c ts) s e))) (lookup-said 𝓤 H A mem run (α ∷ []) (x (α ∷ []) l₅ γ) s e r) $ heard ! (r ≡ foundIn (take c ts) s e) (λ said. split ! $ move ! (1 ∷ []) $
         peeks ! F.the-row (Is F.the-row) (shows 𝓤 H A F.the-row) r (u ∷ []) (λ g.
         land ! (from ! (stop !)) (init ! 16 refl (LL.lawful F.the-type F′.the-laws 𝓤 H A W .typed r _ g .0)) $ drop ! $
-        split ! $ lft-end ! tt $ move ! (0 ∷ 2 ∷ []) $ use2 W (later (‵ (froom (tyArray T′.mir 64) l₅ 0))) (front-back 𝓤 H A W T.the-row 64 c ts (α ∷ []) l₅ (is .1 .0 .1)) $ await ! tt $
+        split ! $ lft-end ! tt $ move ! (0 ∷ 2 ∷ []) $ use2 W (later (‵ (froom (tyArray T′.mir maxTerms) l₅ 0))) (front-back 𝓤 H A W T.the-row maxTerms c ts (α ∷ []) l₅ (is .1 .0 .1)) $ await ! tt $
         -- [room for _5; true; _7; …; _6; …; that _5 dies; _4; …; _3; …; _2; …; _1; …; _0; …]
         returns ! (look ! 15 refl) $ forget ! 2 refl $ forget ! 4 refl $ forget ! 7 refl $ forget ! 9 refl $ forget ! 11 refl $ forget ! 13 refl $ forget ! 15 refl $
         move ! (15 ∷ 16 ∷ []) $ free1 ! $ move ! (13 ∷ 14 ∷ []) $ free1 ! $ move ! (11 ∷ 12 ∷ []) $ free1 ! $ move ! (9 ∷ 10 ∷ []) $ free1 ! $ move ! (7 ∷ 8 ∷ []) $ free1 ! $
         move ! (0 ∷ 6 ∷ []) $ free1 ! $ move ! (3 ∷ 4 ∷ []) $ free1 ! $ move ! (1 ∷ 2 ∷ []) $ free1 ! $ free0 ! $ keep ! [] $ by ! (exits r u g said)))))))))))))))
       where
-        typed : Holds (hasTy (tyArray T′.mir 64) (val ts)) × WT (val ts)
-        typed = array-lawful 𝓤 H A W T.the-row (LL.lawful T.the-type T′.the-laws 𝓤 H A W) 64 .typed ts _ is .0
+        typed : Holds (hasTy (tyArray T′.mir maxTerms) (val ts)) × WT (val ts)
+        typed = array-lawful 𝓤 H A W T.the-row (LL.lawful T.the-type T′.the-laws 𝓤 H A W) maxTerms .typed ts _ is .0
 
 module _ {M : Type 1} (𝓤 : URA M) (H : Heap 𝓤) (A : Atoms 𝓤) (W : Given 𝓤 H A) (mem : Memory → SProp 𝓤) (run : Routine → Fun 𝓤) (𝓣 : Tables 𝓤 H) (known : Triple 𝓤 (𝓣 .C #lookup) (Lookup 𝓤 H A mem run)) where
   among-walks : Walks 𝓤 H A among.ended stayed (WpFn 𝓤 H (𝓣 .C) (𝓣 .Λ) code.function) (among.clauses 𝓤 H A mem run)
   among-walks = walked 𝓤 H A among.ended stayed (among.clauses 𝓤 H A mem run) (WpFn 𝓤 H (𝓣 .C) (𝓣 .Λ) code.function)
-      (λ κs. (vals, (uint-vals w64, (uint-vals w16, (uint-vals w64, tt))))) (λ κs. (array-tells T.the-row (LL.vals T.the-type T′.the-laws) (LL.tells T.the-type T′.the-laws) 64, (uint-tells w64, (uint-tells w16, (uint-tells w64, tt)))))
-      (λ κs qs bounds a g are. needs 𝓤 (a .1 .0 ≤ 64) _ (λ few.
+      (λ κs. (vals, (uint-vals w64, (uint-vals w16, (uint-vals w64, tt))))) (λ κs. (array-tells T.the-row (LL.vals T.the-type T′.the-laws) (LL.tells T.the-type T′.the-laws) maxTerms, (uint-tells w64, (uint-tells w16, (uint-tells w64, tt)))))
+      (λ κs qs bounds a g are. needs 𝓤 (a .1 .0 ≤ maxTerms) _ (λ few.
       walk 𝓤 H A W mem run (a .0) (a .1 .0) (a .1 .1 .0) (a .1 .1 .1 .0) (are .0) (are .1 .0 .1) (are .1 .1 .0 .1) (are .1 .1 .1 .0 .1) few (𝓣 .C) (𝓣 .Λ) (fmOf 𝓤 H (W .laws) 𝓣) known))
 
   among-meets : Meets 𝓤 H A among.signature (WpFn 𝓤 H (𝓣 .C) (𝓣 .Λ) code.function) (among.spec 𝓤 H A mem run)

@@ -4,6 +4,7 @@ use mathlib.Core.Path.{_≡_, refl, sym, _∙_}
 use native.Mathlib.Omega.{arith}
 use borrow.Author.Needs.{needs}
 use lib.ListN.{drop}
+use Rattle.limits.specs.Limits.{positions}
 use Rattle.elimination.specs.Divisors.{pairsOf}
 use Rattle.elimination.specs.Elimination.{before}
 use Rattle.elimination.specs.Lookup.{lookupBest}
@@ -17,8 +18,8 @@ use Rattle.eliminate.proofs.pick.best_in_row.Tie as tie
 abbrev Inv-loop : tie.InvT-loop
 Inv-loop signs m row count best₀ i₀ best i =
     (i ≤ count)
-    × (lookupBest 16 before (rowsSignsFrom 260 16 signs 0 m) (scoredOf best) (pairsOf (drop i (rowTerms row)))
-    ≡ lookupBest 16 before (rowsSignsFrom 260 16 signs 0 m) (scoredOf best₀) (pairsOf (rowTerms row)))
+    × (lookupBest positions before (rowsSignsFrom signs 0 m) (scoredOf best) (pairsOf (drop i (rowTerms row)))
+    ≡ lookupBest positions before (rowsSignsFrom signs 0 m) (scoredOf best₀) (pairsOf (rowTerms row)))
 
 abbrev μ-loop : tie.MeasureT-loop
 μ-loop signs m row count best₀ i₀ best i = count - i
@@ -44,14 +45,14 @@ loop-again : tie.Need-loop-again Inv-loop μ-loop
 loop-again c =
     let h = c .before .before in
     let s = h .before .before in
-    let next = row-next 16 (rowsSignsFrom 260 16 (s .args .signs .now) 0 (s .args .m)) (rowTerms (s .args .row)) (h .loop .i) noTerm (scoredOf (h .loop .best)) (omega arith) in
+    let next = row-next positions (rowsSignsFrom (s .args .signs .now) 0 (s .args .m)) (rowTerms (s .args .row)) (h .loop .i) noTerm (scoredOf (h .loop .best)) (omega arith) in
     (omega arith, rw (c .best-with .ensures) (sym next ∙ h .loop .inv .1))
 
 returns : tie.Need-returns Inv-loop μ-loop
 returns c =
     let h = c .before in
     let s = h .before .before in
-    sym (row-end 16 (rowsSignsFrom 260 16 (s .args .signs .now) 0 (s .args .m)) (rowTerms (s .args .row)) (h .loop .i) (scoredOf (h .loop .best)) (omega arith))
+    sym (row-end positions (rowsSignsFrom (s .args .signs .now) 0 (s .args .m)) (rowTerms (s .args .row)) (h .loop .i) (scoredOf (h .loop .best)) (omega arith))
     ∙ h .loop .inv .1
 
 pub best-in-row-spec : {M : Type 1} → statement M

@@ -5,6 +5,7 @@ use mathlib.Core.List.{[]}
 use native.Mathlib.Omega.{arith}
 use borrow.Author.Needs.{needs}
 use lib.ListN.{drop, getD}
+use Rattle.limits.specs.Limits.{positions}
 use Rattle.elimination.specs.Elimination.{before, noPairs, allPairs}
 use Rattle.elimination.specs.Lookup.{lookupBest}
 use Rattle.eliminate.specs.State.{rowsTerms}
@@ -18,8 +19,8 @@ use Rattle.eliminate.proofs.pick.best_in_rows.Tie as tie
 abbrev Inv-loop : tie.InvT-loop
 Inv-loop signs rows m best₀ i₀ best i =
     (i ≤ m)
-    × (lookupBest 16 before (rowsSignsFrom 260 16 signs 0 m) (scoredOf best) (allPairs (drop i (rowsTerms rows)))
-    ≡ lookupBest 16 before (rowsSignsFrom 260 16 signs 0 m) noPairs (allPairs (rowsTerms rows)))
+    × (lookupBest positions before (rowsSignsFrom signs 0 m) (scoredOf best) (allPairs (drop i (rowsTerms rows)))
+    ≡ lookupBest positions before (rowsSignsFrom signs 0 m) noPairs (allPairs (rowsTerms rows)))
 
 abbrev μ-loop : tie.MeasureT-loop
 μ-loop signs rows m best₀ i₀ best i = m - i
@@ -54,7 +55,7 @@ loop-again c =
     let h = c .before .before .before in
     let s = h .before .before .before in
     let m : ℕ = h .before .before .m .result in
-    let next = rows-next 16 (rowsSignsFrom 260 16 (s .args .signs .now) 0 m) (rowsTerms (s .args .rows)) (h .loop .i) (scoredOf (h .loop .best)) (omega arith) in
+    let next = rows-next positions (rowsSignsFrom (s .args .signs .now) 0 m) (rowsTerms (s .args .rows)) (h .loop .i) (scoredOf (h .loop .best)) (omega arith) in
     (omega arith, rw (c .best-in-row .ensures, c .before .row .ensures) (sym next ∙ h .loop .inv .1))
 
 returns : tie.Need-returns Inv-loop μ-loop
@@ -62,9 +63,9 @@ returns c =
     let h = c .before in
     let s = h .before .before .before in
     let m : ℕ = h .before .before .m .result in
-    sym (rows-end 16 (rowsSignsFrom 260 16 (s .args .signs .now) 0 m) (rowsTerms (s .args .rows)) (h .loop .i) (scoredOf (h .loop .best)) (omega arith))
+    sym (rows-end positions (rowsSignsFrom (s .args .signs .now) 0 m) (rowsTerms (s .args .rows)) (h .loop .i) (scoredOf (h .loop .best)) (omega arith))
     ∙ h .loop .inv .1
-    ∙ ap (λ (n : ℕ). lookupBest 16 before (rowsSignsFrom 260 16 (s .args .signs .now) 0 n) noPairs (allPairs (rowsTerms (s .args .rows)))) (h .before .before .m .ensures)
+    ∙ ap (λ (n : ℕ). lookupBest positions before (rowsSignsFrom (s .args .signs .now) 0 n) noPairs (allPairs (rowsTerms (s .args .rows)))) (h .before .before .m .ensures)
 
 pub best-in-rows-spec : {M : Type 1} → statement M
 best-in-rows-spec =

@@ -4,6 +4,7 @@ use mathlib.Core.Path.{_≡_, refl, ap, sym, _∙_}
 use native.Mathlib.Omega.{arith}
 use borrow.Author.Needs.{needs}
 use lib.ListN.{drop}
+use Rattle.limits.specs.Limits.{positions}
 use Rattle.term.specs.declared.Term.{Term}
 use Rattle.elimination.specs.Divisors.{pairsWith}
 use Rattle.elimination.specs.Elimination.{before}
@@ -20,8 +21,8 @@ abbrev Inv-loop : tie.InvT-loop
 Inv-loop signs m row i count t best₀ j₀ best j =
     (i < j)
     × (j ≤ count)
-    × (lookupBest 16 before (rowsSignsFrom 260 16 signs 0 m) (scoredOf best) (pairsWith t (drop j (rowTerms row)))
-    ≡ lookupBest 16 before (rowsSignsFrom 260 16 signs 0 m) (scoredOf best₀) (pairsWith t (drop (i + 1) (rowTerms row))))
+    × (lookupBest positions before (rowsSignsFrom signs 0 m) (scoredOf best) (pairsWith t (drop j (rowTerms row)))
+    ≡ lookupBest positions before (rowsSignsFrom signs 0 m) (scoredOf best₀) (pairsWith t (drop (i + 1) (rowTerms row))))
 
 abbrev μ-loop : tie.MeasureT-loop
 μ-loop signs m row i count t best₀ j₀ best j = count - j
@@ -63,7 +64,7 @@ loop-again c =
     let s = h .before .before .before in
     let r = rowTerms (s .args .row) in
     let t : Term = h .before .term .result in
-    let next = with-next 16 (rowsSignsFrom 260 16 (s .args .signs .now) 0 (s .args .m)) t r (h .loop .j) noTerm (scoredOf (h .loop .best)) (omega arith) in
+    let next = with-next positions (rowsSignsFrom (s .args .signs .now) 0 (s .args .m)) t r (h .loop .j) noTerm (scoredOf (h .loop .best)) (omega arith) in
     (omega arith, omega arith, rw (c .better-of .ensures, c .before .scored .ensures, c .before .before .term2 .ensures) (sym next ∙ h .loop .inv .2))
 
 returns : tie.Need-returns Inv-loop μ-loop
@@ -72,9 +73,9 @@ returns c =
     let s = h .before .before .before in
     let r = rowTerms (s .args .row) in
     let t : Term = h .before .term .result in
-    sym (with-end 16 (rowsSignsFrom 260 16 (s .args .signs .now) 0 (s .args .m)) t r (h .loop .j) (scoredOf (h .loop .best)) (omega arith))
+    sym (with-end positions (rowsSignsFrom (s .args .signs .now) 0 (s .args .m)) t r (h .loop .j) (scoredOf (h .loop .best)) (omega arith))
     ∙ h .loop .inv .2
-    ∙ ap (λ (x : Term). lookupBest 16 before (rowsSignsFrom 260 16 (s .args .signs .now) 0 (s .args .m)) (scoredOf (s .args .start)) (pairsWith x (drop (s .args .i + 1) r))) (h .before .term .ensures)
+    ∙ ap (λ (x : Term). lookupBest positions before (rowsSignsFrom (s .args .signs .now) 0 (s .args .m)) (scoredOf (s .args .start)) (pairsWith x (drop (s .args .i + 1) r))) (h .before .term .ensures)
 
 pub best-with-spec : {M : Type 1} → statement M
 best-with-spec =

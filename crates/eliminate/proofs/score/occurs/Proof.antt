@@ -18,7 +18,7 @@ sign-at-requires c κs = search needs
 returns : tie.Need-returns
 returns c =
     let s = c .before .before .before in
-    no-first (tableSigns 260 16 (s .args .signs .now) (s .args .row)) (s .args .d) (s .args .c) (c .before .sign-at .result) (c .before .sign-at .ensures) (c .if1 .taken)
+    no-first (tableSigns (s .args .signs .now) (s .args .row)) (s .args .d) (s .args .c) (c .before .sign-at .result) (c .before .sign-at .ensures) (c .if1 .taken)
 
 cast-sign-at-2 : tie.Need-cast-sign-at-2
 cast-sign-at-2 c = search needs
@@ -34,7 +34,7 @@ returns-2 c =
     let x = c .before .before .before .before .sign-at in
     let y = c .before .sign-at2 in
     let s = c .before .before .before .before .before .before in
-    no-second (tableSigns 260 16 (s .args .signs .now) (s .args .row)) (s .args .d) (s .args .c) (x .result) (x .ensures) (y .result) (y .ensures)
+    no-second (tableSigns (s .args .signs .now) (s .args .row)) (s .args .d) (s .args .c) (x .result) (x .ensures) (y .result) (y .ensures)
     (omega arith) (c .if2 .taken)
 
 returns-3 : tie.Need-returns-3
@@ -42,7 +42,7 @@ returns-3 c =
     let x = c .before .before .before .before .before .sign-at in
     let y = c .before .before .sign-at2 in
     let s = c .before .before .before .before .before .before .before in
-    signs-differ (tableSigns 260 16 (s .args .signs .now) (s .args .row)) (s .args .d) (s .args .c) (x .result) (x .ensures) (y .result) (y .ensures)
+    signs-differ (tableSigns (s .args .signs .now) (s .args .row)) (s .args .d) (s .args .c) (x .result) (x .ensures) (y .result) (y .ensures)
     (omega arith) (omega arith) (c .if3 .taken)
 
 returns-4 : tie.Need-returns-4
@@ -50,7 +50,7 @@ returns-4 c =
     let x = c .before .before .before .before .before .sign-at in
     let y = c .before .before .sign-at2 in
     let s = c .before .before .before .before .before .before .before in
-    signs-agree (tableSigns 260 16 (s .args .signs .now) (s .args .row)) (s .args .d) (s .args .c) (x .result) (x .ensures) (y .result) (y .ensures)
+    signs-agree (tableSigns (s .args .signs .now) (s .args .row)) (s .args .d) (s .args .c) (x .result) (x .ensures) (y .result) (y .ensures)
     (omega arith) (omega arith) (c .if3 .left)
 
 pub occurs-spec : {M : Type 1} → statement M

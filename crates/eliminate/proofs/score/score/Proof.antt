@@ -3,6 +3,7 @@ use Prim.Native.Nat.{_+_, _-_, _*_, _≤_}
 use mathlib.Core.Path.{_≡_}
 use native.Mathlib.Omega.{arith}
 use borrow.Author.Needs.{needs}
+use Rattle.limits.specs.Limits.{positions}
 use Rattle.elimination.specs.Lookup.{lookupScore}
 use Rattle.eliminate.specs.Signs.{rowsSignsFrom}
 use Rattle.eliminate.proofs.Scoring.{row-most, score-next, score-end, score-start}
@@ -12,14 +13,14 @@ use Rattle.eliminate.proofs.score.score.Tie as tie
 abbrev Inv-loop : tie.InvT-loop
 Inv-loop signs m d n₀ i₀ n i =
     (i ≤ m)
-    × (n ≤ 16 * i)
-    × (n + lookupScore 16 (rowsSignsFrom 260 16 signs i (m - i)) d ≡ lookupScore 16 (rowsSignsFrom 260 16 signs 0 m) d)
+    × (n ≤ positions * i)
+    × (n + lookupScore positions (rowsSignsFrom signs i (m - i)) d ≡ lookupScore positions (rowsSignsFrom signs 0 m) d)
 
 abbrev μ-loop : tie.MeasureT-loop
 μ-loop signs m d n₀ i₀ n i = m - i
 
 loop-holds : tie.Need-loop-holds Inv-loop μ-loop
-loop-holds c = (omega arith, omega arith, omega (arith, score-start 260 16 (c .args .signs .now) (c .args .d) 16 (c .args .m)))
+loop-holds c = (omega arith, omega arith, omega (arith, score-start (c .args .signs .now) (c .args .d) positions (c .args .m)))
 
 taken-in-row-requires : tie.Need-taken-in-row-requires Inv-loop μ-loop
 taken-in-row-requires c κs = omega arith
@@ -28,7 +29,7 @@ add-n : tie.Need-add-n Inv-loop μ-loop
 add-n c =
     let h = c .before .before .before in
     let s = h .before in
-    omega (arith, c .before .taken-in-row .ensures .1, row-most 260 16 (s .args .signs .now) (s .args .d) (h .loop .i) 16)
+    omega (arith, c .before .taken-in-row .ensures .1, row-most (s .args .signs .now) (s .args .d) (h .loop .i) positions)
 
 add-i : tie.Need-add-i Inv-loop μ-loop
 add-i c = search needs
@@ -40,8 +41,8 @@ loop-again : tie.Need-loop-again Inv-loop μ-loop
 loop-again c =
     let h = c .before .before .before in
     let s = h .before in
-    let most = row-most 260 16 (s .args .signs .now) (s .args .d) (h .loop .i) 16 in
-    let next = score-next 260 16 (s .args .signs .now) (s .args .d) (h .loop .i) 16 (s .args .m) (omega arith) in
+    let most = row-most (s .args .signs .now) (s .args .d) (h .loop .i) positions in
+    let next = score-next (s .args .signs .now) (s .args .d) (h .loop .i) positions (s .args .m) (omega arith) in
     let found = c .before .taken-in-row .ensures .1 in
     (omega arith, omega arith, omega arith)
 
@@ -49,7 +50,7 @@ returns : tie.Need-returns Inv-loop μ-loop
 returns c =
     let h = c .before in
     let s = h .before in
-    omega (arith, score-end 260 16 (s .args .signs .now) (s .args .d) (h .loop .i) 16 (s .args .m) (omega arith))
+    omega (arith, score-end (s .args .signs .now) (s .args .d) (h .loop .i) positions (s .args .m) (omega arith))
 
 pub score-spec : {M : Type 1} → statement M
 score-spec =

@@ -7,6 +7,7 @@ use mathlib.Core.List.{List}
 use native.Mathlib.Omega.{arith}
 use borrow.Author.Needs.{needs}
 use lib.ListN.{set}
+use Rattle.limits.specs.Limits.{positions}
 use Rattle.elimination.specs.Lookup.{Signs, occursAt, overlapsTaken, takenFlags, countTrue}
 use Rattle.eliminate.specs.Signs.{tableSigns}
 use Rattle.eliminate.proofs.Scoring.{padded, padded-start, padded-next, padded-limit, count-yes, count-no, count-none, count-limit, table-none}
@@ -17,8 +18,8 @@ abbrev Inv-loop : tie.InvT-loop
 Inv-loop signs row d limit flags₀ count₀ c₀ flags count c =
     (c ≤ limit)
     × (count ≤ c)
-    × (flags ≡ padded 16 (tableSigns 260 16 signs row) d c)
-    × (count ≡ countTrue (takenFlags (tableSigns 260 16 signs row) d c))
+    × (flags ≡ padded positions (tableSigns signs row) d c)
+    × (count ≡ countTrue (takenFlags (tableSigns signs row) d c))
 
 abbrev μ-loop : tie.MeasureT-loop
 μ-loop signs row d limit flags₀ count₀ c₀ flags count c = limit - c
@@ -29,8 +30,8 @@ co-divisors-requires c κs = search needs
 loop-holds : tie.Need-loop-holds Inv-loop μ-loop
 loop-holds c =
     let a = c .before .args in
-    let signs = tableSigns 260 16 (a .signs .now) (a .row) in
-    (omega arith, omega arith, padded-start 16 signs (a .d), sym (count-none signs (a .d)))
+    let signs = tableSigns (a .signs .now) (a .row) in
+    (omega arith, omega arith, padded-start positions signs (a .d), sym (count-none signs (a .d)))
 
 takes-requires : tie.Need-takes-requires Inv-loop μ-loop
 takes-requires c κs = search needs
@@ -53,14 +54,14 @@ loop-again c =
     let s = h .before .before in
     let d = s .args .d in
     let k = h .loop .c in
-    let signs : Signs = tableSigns 260 16 (s .args .signs .now) (s .args .row) in
+    let signs : Signs = tableSigns (s .args .signs .now) (s .args .row) in
     let b : Bool = c .before .takes .result in
-    let e : b ≡ (occursAt signs d k && not (overlapsTaken d (padded 16 signs d k) k)) =
+    let e : b ≡ (occursAt signs d k && not (overlapsTaken d (padded positions signs d k) k)) =
     c .before .takes .ensures ∙ ap (λ (flags : List Bool). occursAt signs d k && not (overlapsTaken d flags k)) (h .loop .inv .2) in
-    let flags = ap (λ (flags : List Bool). set flags k b) (h .loop .inv .2) ∙ padded-next 16 signs d k b e (omega arith) in
+    let flags = ap (λ (flags : List Bool). set flags k b) (h .loop .inv .2) ∙ padded-next positions signs d k b e (omega arith) in
     ⊎-elim
-    (λ w. (omega arith, omega arith, flags, omega (arith, count-yes 16 signs d k b e (w .0 .taken))))
-    (λ w. (omega arith, omega arith, flags, omega (arith, count-no 16 signs d k b e (w .0 .left))))
+    (λ w. (omega arith, omega arith, flags, omega (arith, count-yes positions signs d k b e (w .0 .taken))))
+    (λ w. (omega arith, omega arith, flags, omega (arith, count-no positions signs d k b e (w .0 .left))))
     (c .if1 .came)
 
 returns : tie.Need-returns Inv-loop μ-loop
@@ -69,11 +70,11 @@ returns c =
     let s = h .before .before in
     let d = s .args .d in
     let limit = h .before .co-divisors in
-    let signs : Signs = tableSigns 260 16 (s .args .signs .now) (s .args .row) in
-    let none = table-none 260 16 (s .args .signs .now) (s .args .row) in
+    let signs : Signs = tableSigns (s .args .signs .now) (s .args .row) in
+    let none = table-none (s .args .signs .now) (s .args .row) in
     let e : h .loop .c ≡ limit .result = omega arith in (
-      h .loop .inv .2 ∙ ap (padded 16 signs d) e ∙ padded-limit 16 signs d none (limit .result) (limit .ensures .0) (limit .ensures .1),
-      h .loop .inv .3 ∙ ap (λ (n : ℕ). countTrue (takenFlags signs d n)) e ∙ count-limit 16 signs d none (limit .result) (limit .ensures .0) (limit .ensures .1),
+      h .loop .inv .2 ∙ ap (padded positions signs d) e ∙ padded-limit positions signs d none (limit .result) (limit .ensures .0) (limit .ensures .1),
+      h .loop .inv .3 ∙ ap (λ (n : ℕ). countTrue (takenFlags signs d n)) e ∙ count-limit positions signs d none (limit .result) (limit .ensures .0) (limit .ensures .1),
     )
 
 pub taken-in-row-spec : {M : Type 1} → statement M

@@ -13,7 +13,7 @@ use Rattle.eliminate.proofs.signs.enter_row.Statement.{statement}
 use Rattle.eliminate.proofs.signs.enter_row.Tie as tie
 
 abbrev Inv-loop : tie.InvT-loop
-Inv-loop signs₀ i row count j₀ signs j = (j ≤ count) × (enteredTerms 260 16 i signs (drop j (rowTerms row)) ≡ enteredTerms 260 16 i signs₀ (rowTerms row))
+Inv-loop signs₀ i row count j₀ signs j = (j ≤ count) × (enteredTerms i signs (drop j (rowTerms row)) ≡ enteredTerms i signs₀ (rowTerms row))
 
 abbrev μ-loop : tie.MeasureT-loop
 μ-loop signs₀ i row count j₀ signs j = count - j
@@ -59,14 +59,14 @@ loop-again : tie.Need-loop-again Inv-loop μ-loop
 loop-again c =
     let h = c .before .before .before .before in
     let s = h .before .before in
-    let next = entered-next 260 16 (s .args .i) (h .loop .signs) (rowTerms (s .args .row)) (h .loop .j) noTerm (omega arith) in
+    let next = entered-next (s .args .i) (h .loop .signs) (rowTerms (s .args .row)) (h .loop .j) noTerm (omega arith) in
     (omega arith, rw (c .before .place-of .ensures, c .sign-of .ensures, c .before .before .term .ensures) (sym next ∙ h .loop .inv .1))
 
 returns : tie.Need-returns Inv-loop μ-loop
 returns c =
     let h = c .before in
     let s = h .before .before in
-    sym (entered-end 260 16 (s .args .i) (h .loop .signs) (rowTerms (s .args .row)) (h .loop .j) (omega arith)) ∙ h .loop .inv .1
+    sym (entered-end (s .args .i) (h .loop .signs) (rowTerms (s .args .row)) (h .loop .j) (omega arith)) ∙ h .loop .inv .1
 
 pub enter-row-spec : {M : Type 1} → statement M
 enter-row-spec =

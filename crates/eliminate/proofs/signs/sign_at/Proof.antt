@@ -9,13 +9,13 @@ use Rattle.eliminate.proofs.signs.sign_at.Statement.{statement}
 use Rattle.eliminate.proofs.signs.sign_at.Tie as tie
 
 returns : tie.Need-returns
-returns c = sym (look-out 260 16 _ _ _ _ (λ s e. omega arith))
+returns c = sym (look-out _ _ _ _ (λ s e. omega arith))
 
 cast-if2 : tie.Need-cast-if2
 cast-if2 c = search needs
 
 returns-2 : tie.Need-returns-2
-returns-2 c = sym (look-out 260 16 _ _ _ _ (λ s e. omega arith))
+returns-2 c = sym (look-out _ _ _ _ (λ s e. omega arith))
 
 place-requires : tie.Need-place-requires
 place-requires c κs = search needs
@@ -27,7 +27,7 @@ returns-3 : tie.Need-returns-3
 returns-3 c =
     let s = c .before .before .before .before in
     ap (λ (at : ℕ). getD (s .args .signs .now) at 0) (c .before .place .ensures)
-    ∙ sym (look-in 260 16 (s .args .signs .now) (s .args .row) (s .args .symbol) (s .args .exponent) (omega arith) (omega arith))
+    ∙ sym (look-in (s .args .signs .now) (s .args .row) (s .args .symbol) (s .args .exponent) (omega arith) (omega arith))
 
 pub sign-at-spec : {M : Type 1} → statement M
 sign-at-spec =

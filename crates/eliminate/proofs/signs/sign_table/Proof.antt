@@ -13,7 +13,7 @@ use Rattle.eliminate.proofs.signs.sign_table.Statement.{statement}
 use Rattle.eliminate.proofs.signs.sign_table.Tie as tie
 
 abbrev Inv-loop : tie.InvT-loop
-Inv-loop rows signs₀ m i₀ signs i = (i ≤ m) × (enteredRows 260 16 i signs (drop i (rowsTerms rows)) ≡ signTable 260 16 8 (rowsTerms rows))
+Inv-loop rows signs₀ m i₀ signs i = (i ≤ m) × (enteredRows i signs (drop i (rowsTerms rows)) ≡ signTable (rowsTerms rows))
 
 abbrev μ-loop : tie.MeasureT-loop
 μ-loop rows signs₀ m i₀ signs i = m - i
@@ -25,7 +25,7 @@ m-requires : tie.Need-m-requires Inv-loop μ-loop
 m-requires c κs = search needs
 
 loop-holds : tie.Need-loop-holds Inv-loop μ-loop
-loop-holds c = (omega arith, rw (c .before .blank .ensures) (entered-rows-start 260 16 8 (rowsTerms (c .before .before .args .rows))))
+loop-holds c = (omega arith, rw (c .before .blank .ensures) (entered-rows-start (rowsTerms (c .before .before .args .rows))))
 
 row-requires : tie.Need-row-requires Inv-loop μ-loop
 row-requires c κs = omega arith
@@ -47,14 +47,14 @@ loop-again : tie.Need-loop-again Inv-loop μ-loop
 loop-again c =
     let h = c .before .before .before .before in
     let s = h .before .before .before in
-    let next = entered-rows-next 260 16 (h .loop .i) (h .loop .signs) (rowsTerms (s .args .rows)) (omega arith) in
+    let next = entered-rows-next (h .loop .i) (h .loop .signs) (rowsTerms (s .args .rows)) (omega arith) in
     (omega arith, rw (c .enter-row .ensures, c .before .row .ensures) (sym next ∙ h .loop .inv .1))
 
 returns : tie.Need-returns Inv-loop μ-loop
 returns c =
     let h = c .before in
     let s = h .before .before .before in
-    sym (entered-rows-end 260 16 (h .loop .i) (h .loop .signs) (rowsTerms (s .args .rows)) (omega arith)) ∙ h .loop .inv .1
+    sym (entered-rows-end (h .loop .i) (h .loop .signs) (rowsTerms (s .args .rows)) (omega arith)) ∙ h .loop .inv .1
 
 pub sign-table-spec : {M : Type 1} → statement M
 sign-table-spec =

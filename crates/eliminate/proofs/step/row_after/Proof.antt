@@ -2,6 +2,7 @@
 use mathlib.Core.Path.{_∙_}
 use native.Mathlib.Omega.{arith}
 use borrow.Author.Needs.{needs}
+use Rattle.limits.specs.Limits.{positions}
 use Rattle.eliminate.specs.State.{rowTerms}
 use Rattle.eliminate.specs.Signs.{tableSigns}
 use Rattle.eliminate.proofs.Stepping.{row-after-parts}
@@ -19,7 +20,7 @@ with-new-terms-requires c κs =
     let s = c .before .before .before in
     let a = s .args in
     let flags = c .before .before .taken-in-row in
-    let parts = row-after-parts 16 (a .symbol) (a .d) (tableSigns 260 16 (a .signs .now) (a .i)) (rowTerms (a .row)) (flags .result .flags) (rowTerms (c .kept .result)) (flags .ensures .0) (c .kept .ensures) in
+    let parts = row-after-parts positions (a .symbol) (a .d) (tableSigns (a .signs .now) (a .i)) (rowTerms (a .row)) (flags .result .flags) (rowTerms (c .kept .result)) (flags .ensures .0) (c .kept .ensures) in
     (omega arith, rw parts (s .pre .4))
 
 returns : tie.Need-returns
@@ -28,7 +29,7 @@ returns c =
     let a = s .args in
     let flags = c .before .before .before .taken-in-row in
     c .with-new-terms .ensures
-    ∙ row-after-parts 16 (a .symbol) (a .d) (tableSigns 260 16 (a .signs .now) (a .i)) (rowTerms (a .row)) (flags .result .flags) (rowTerms (c .before .kept .result)) (flags .ensures .0) (c .before .kept .ensures)
+    ∙ row-after-parts positions (a .symbol) (a .d) (tableSigns (a .signs .now) (a .i)) (rowTerms (a .row)) (flags .result .flags) (rowTerms (c .before .kept .result)) (flags .ensures .0) (c .before .kept .ensures)
 
 pub row-after-spec : {M : Type 1} → statement M
 row-after-spec =

@@ -5,6 +5,7 @@ use mathlib.Core.List.{List, [], _∷_, _++_}
 use native.Mathlib.Omega.{arith}
 use borrow.Author.Needs.{needs}
 use lib.ListN.{length, drop, getD, length-append}
+use Rattle.limits.specs.Limits.{positions}
 use Rattle.term.specs.declared.Term.{Term}
 use Rattle.elimination.specs.Elimination.{rowAfter, rowsAfter}
 use Rattle.eliminate.specs.State.{rowTerms, rowsTerms}
@@ -72,7 +73,7 @@ loop-again c =
     let i = h .loop .i in
     let rows = rowsTerms (a .rows) in
     let l : i < length rows = omega arith in
-    let table = ap (λ (x : List Term). rowAfterBy 16 (a .symbol) (a .d) (tableSigns 260 16 (a .signs .now) i) x) (c .before .before .row .ensures) in
+    let table = ap (λ (x : List Term). rowAfterBy positions (a .symbol) (a .d) (tableSigns (a .signs .now) i) x) (c .before .before .row .ensures) in
     let own : rowTerms (c .before .row-after .result) ≡ rowAfter (a .symbol) (a .d) (getD rows i []) =
     c .before .row-after .ensures ∙ table ∙ rw (s .pre .0) (row-after-is (a .symbol) rows (s .pre .1) (s .pre .2) i l (a .d) (s .pre .3)) in
     let out : rowsTerms (c .with-row .result) ≡ rowsTerms (h .loop .out) ++ (rowAfter (a .symbol) (a .d) (getD rows i []) ∷ []) =

@@ -6,6 +6,7 @@ use mathlib.Core.List.{[], _∷_, _++_}
 use native.Mathlib.Omega.{arith}
 use borrow.Author.Needs.{needs}
 use lib.ListN.{length, drop}
+use Rattle.limits.specs.Limits.{positions, maxTerms}
 use Rattle.term.specs.declared.Term.{Term}
 use Rattle.elimination.specs.Lookup.{signAt, lookupTerm, lookupTermsFrom}
 use Rattle.eliminate.specs.State.{rowTerms}
@@ -15,11 +16,11 @@ use Rattle.eliminate.proofs.step.with_new_terms.Tie as tie
 
 abbrev Inv-loop : tie.InvT-loop
 Inv-loop row symbol d flags out₀ c₀ out c =
-    (c ≤ 16)
+    (c ≤ positions)
     × (rowTerms out ++ lookupTermsFrom symbol (signAt (rowTerms row)) d c (drop c flags) ≡ rowTerms out₀ ++ lookupTermsFrom symbol (signAt (rowTerms row)) d 0 flags)
 
 abbrev μ-loop : tie.MeasureT-loop
-μ-loop row symbol d flags out₀ c₀ out c = 16 - c
+μ-loop row symbol d flags out₀ c₀ out c = positions - c
 
 loop-holds : tie.Need-loop-holds Inv-loop μ-loop
 loop-holds c = (omega arith, refl)
@@ -35,11 +36,11 @@ push-requires c κs =
     let h = c .before .before .before in
     let s = h .before in
     let signs = signAt (rowTerms (s .args .row)) in
-    let sixteen : length (s .args .t4) ≡ 16 = search needs in
+    let long : length (s .args .t4) ≡ positions = search needs in
     let made = new-makes (s .args .symbol) signs (s .args .d) (s .args .t4) (h .loop .c) (rowTerms (h .loop .out)) (omega arith) (c .before .if1 .taken) in
     room-for (rowTerms (h .loop .out)) (lookupTerm (s .args .symbol) signs (s .args .d) (h .loop .c))
     (lookupTermsFrom (s .args .symbol) signs (s .args .d) (h .loop .c + 1) (drop (h .loop .c + 1) (s .args .t4)))
-    (rowTerms (s .args .rest) ++ lookupTermsFrom (s .args .symbol) signs (s .args .d) 0 (s .args .t4)) 64
+    (rowTerms (s .args .rest) ++ lookupTermsFrom (s .args .symbol) signs (s .args .d) 0 (s .args .t4)) maxTerms
     (sym made ∙ h .loop .inv .1) (s .pre .1)
 
 add-c : tie.Need-add-c Inv-loop μ-loop
@@ -53,7 +54,7 @@ loop-again c =
     let h = c .before .before in
     let s = h .before in
     let signs = signAt (rowTerms (s .args .row)) in
-    let sixteen : length (s .args .t4) ≡ 16 = search needs in
+    let long : length (s .args .t4) ≡ positions = search needs in
     ⊎-elim
     (λ w.
     let out : rowTerms (c .if1 .out) ≡ rowTerms (h .loop .out) ++ (lookupTerm (s .args .symbol) signs (s .args .d) (h .loop .c) ∷ []) =
@@ -68,7 +69,7 @@ returns : tie.Need-returns Inv-loop μ-loop
 returns c =
     let h = c .before in
     let s = h .before in
-    let sixteen : length (s .args .t4) ≡ 16 = search needs in
+    let long : length (s .args .t4) ≡ positions = search needs in
     sym (new-end (s .args .symbol) (signAt (rowTerms (s .args .row))) (s .args .d) (s .args .t4) (h .loop .c) (rowTerms (h .loop .out)) (omega arith))
     ∙ h .loop .inv .1
 

@@ -5,6 +5,7 @@ use mathlib.Core.List.{List}
 use native.Mathlib.Omega.{arith}
 use borrow.Author.Needs.{needs}
 use lib.ListN.{length, take, length-map, length-take}
+use Rattle.limits.specs.Limits.{maxTerms}
 use Rattle.term.specs.declared.Term.{Term}
 use Rattle.lookup.specs.Found.{foundIn}
 use Rattle.eliminate.specs.State.{rowTerms}
@@ -19,17 +20,17 @@ lookup-among-requires : tie.Need-lookup-among-requires
 unfolding rowTerms
 lookup-among-requires c κs =
     let s = c .before .before in
-    let all : length (s .args .self .terms) ≡ 64 = simp length-map at (s .good .0 .1 .1 .0 .1 .0 .1) in
+    let all : length (s .args .self .terms) ≡ maxTerms = simp length-map at (s .good .0 .1 .1 .0 .1 .0 .1) in
     omega (arith, all, c .before .count .ensures, length-take (s .args .self .count) (s .args .self .terms))
 
 returns : tie.Need-returns
 unfolding rowTerms
 returns c =
     let a = c .before .before .before .args in
-    let all : length (a .self .terms) ≡ 64 = simp length-map at (c .before .before .before .good .0 .1 .1 .0 .1 .0 .1) in
+    let all : length (a .self .terms) ≡ maxTerms = simp length-map at (c .before .before .before .good .0 .1 .1 .0 .1 .0 .1) in
     c .lookup-among .ensures
     ∙ ap (λ (n : ℕ). foundIn (take n (a .self .terms)) (a .symbol) (a .exponent)) (c .before .before .count .ensures)
-    ∙ ap (λ (r : List Term). foundIn r (a .symbol) (a .exponent)) (filled-front (a .self .terms) (a .self .count) 64 all)
+    ∙ ap (λ (r : List Term). foundIn r (a .symbol) (a .exponent)) (filled-front (a .self .terms) (a .self .count) maxTerms all)
 
 pub lookup-spec : {M : Type 1} → statement M
 lookup-spec = tie.close (tie.spec count-requires lookup-among-requires returns)

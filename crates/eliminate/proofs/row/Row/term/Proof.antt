@@ -2,6 +2,7 @@
 use Prim.Native.Nat.{_<_}
 use native.Mathlib.Omega.{arith}
 use lib.ListN.{length-map}
+use Rattle.limits.specs.Limits.{maxTerms}
 use Rattle.eliminate.specs.State.{rowTerms, noTerm}
 use Rattle.eliminate.proofs.Filled.{within, filled-at}
 use Rattle.eliminate.proofs.row.Row.term.Statement.{statement}
@@ -9,9 +10,9 @@ use Rattle.eliminate.proofs.row.Row.term.Tie as tie
 use Rattle.eliminate.proofs.row.Row.term.Reads as reads
 use Rattle.eliminate.proofs.row.Row.term.Lts as lts
 
-inside : (c : lts.Start reads.Pre reads.Post) → c .args .i < 64
+inside : (c : lts.Start reads.Pre reads.Post) → c .args .i < maxTerms
 unfolding rowTerms
-inside c = within (c .args .t1 .terms) (c .args .t1 .count) 64 (simp length-map at (c .good .0 .1 .1 .0 .1 .0 .1)) (c .args .i) (c .pre)
+inside c = within (c .args .t1 .terms) (c .args .t1 .count) maxTerms (simp length-map at (c .good .0 .1 .1 .0 .1 .0 .1)) (c .args .i) (c .pre)
 
 mul-result : tie.Need-mul-result
 mul-result c = omega (arith, inside c)
@@ -23,7 +24,7 @@ returns : tie.Need-returns
 unfolding rowTerms
 returns c =
     let s = c .before in
-    filled-at (s .args .t1 .terms) (s .args .t1 .count) 64 (simp length-map at (s .good .0 .1 .1 .0 .1 .0 .1)) (s .args .i) noTerm (s .pre)
+    filled-at (s .args .t1 .terms) (s .args .t1 .count) maxTerms (simp length-map at (s .good .0 .1 .1 .0 .1 .0 .1)) (s .args .i) noTerm (s .pre)
 
 pub term-spec : {M : Type 1} → statement M
 term-spec = tie.close (tie.spec mul-result element-copy-out-result returns)

@@ -9,6 +9,7 @@ use lib.IntN.{ℤ, pos}
 use mir.Syntax.{w8}
 use mir.Val.{toZ, ofZ}
 use mir.Facts.{toZ-ofZ}
+use Rattle.limits.specs.Limits.{positions, maxTerms}
 use Rattle.integers.proofs.Held.{is, held}
 use Rattle.digits.specs.Digits.{digits}
 use Rattle.digits.proofs.Canonic.{digits-length, digits-are}
@@ -19,10 +20,10 @@ use Rattle.eliminate.proofs.row.Row.with_column.Statement.{statement}
 use Rattle.eliminate.proofs.row.Row.with_column.Tie as tie
 
 abbrev Inv-loop : tie.InvT-loop
-Inv-loop column z ds row₀ i₀ row i = (i ≤ 16) × (rowTerms row ++ columnTerms column i (drop i ds) ≡ rowTerms row₀ ++ columnTerms column 0 ds)
+Inv-loop column z ds row₀ i₀ row i = (i ≤ positions) × (rowTerms row ++ columnTerms column i (drop i ds) ≡ rowTerms row₀ ++ columnTerms column 0 ds)
 
 abbrev μ-loop : tie.MeasureT-loop
-μ-loop column z ds row₀ i₀ row i = 16 - i
+μ-loop column z ds row₀ i₀ row i = positions - i
 
 digits-requires : tie.Need-digits-requires Inv-loop μ-loop
 digits-requires c κs = search needs
@@ -38,15 +39,15 @@ with-digit-requires c κs =
     let h = c .before .before in
     let s = h .before .before in
     let ds = h .before .digits in
-    let worked : ds .result ≡ digits 16 (s .args .z) = ds .ensures ∙ ap (digits 16) (is (held (s .fits .z))) in
+    let worked : ds .result ≡ digits positions (s .args .z) = ds .ensures ∙ ap (digits positions) (is (held (s .fits .z))) in
     let i = h .loop .i in
-    let sixteen : length (ds .result) ≡ 16 = ap (length {A = ℤ}) worked ∙ digits-length 16 (s .args .z) in
-    let whole : length (rowTerms (s .args .self) ++ columnTerms (s .args .column) 0 (ds .result)) ≤ 64 = rw worked (column-most (s .args .column) (s .args .z) (rowTerms (s .args .self)) (s .pre .1)) in
-    let own : toZ w8 (ofZ w8 (getD (ds .result) i (pos 0))) ≡ getD (ds .result) i (pos 0) = rw worked (toZ-ofZ (digit-fits (getD (digits 16 (s .args .z)) i (pos 0)) (digits-are 16 (s .args .z) i))) in (
+    let long : length (ds .result) ≡ positions = ap (length {A = ℤ}) worked ∙ digits-length positions (s .args .z) in
+    let whole : length (rowTerms (s .args .self) ++ columnTerms (s .args .column) 0 (ds .result)) ≤ maxTerms = rw worked (column-most (s .args .column) (s .args .z) (rowTerms (s .args .self)) (s .pre .1)) in
+    let own : toZ w8 (ofZ w8 (getD (ds .result) i (pos 0))) ≡ getD (ds .result) i (pos 0) = rw worked (toZ-ofZ (digit-fits (getD (digits positions (s .args .z)) i (pos 0)) (digits-are positions (s .args .z) i))) in (
       omega arith,
       omega arith,
       rw own (front-most (rowTerms (h .loop .row) ++ columnTerms (s .args .column) i (getD (ds .result) i (pos 0) ∷ [])) (columnTerms (s .args .column) (i + 1) (drop (i + 1) (ds .result)))
-          (rowTerms (s .args .self) ++ columnTerms (s .args .column) 0 (ds .result)) 64
+          (rowTerms (s .args .self) ++ columnTerms (s .args .column) 0 (ds .result)) maxTerms
           (sym (column-next (s .args .column) (ds .result) i (rowTerms (h .loop .row)) (omega arith)) ∙ h .loop .inv .1) whole),
     )
 
@@ -61,10 +62,10 @@ loop-again c =
     let h = c .before .before .before in
     let s = h .before .before in
     let ds = h .before .digits in
-    let worked : ds .result ≡ digits 16 (s .args .z) = ds .ensures ∙ ap (digits 16) (is (held (s .fits .z))) in
+    let worked : ds .result ≡ digits positions (s .args .z) = ds .ensures ∙ ap (digits positions) (is (held (s .fits .z))) in
     let i = h .loop .i in
-    let sixteen : length (ds .result) ≡ 16 = ap (length {A = ℤ}) worked ∙ digits-length 16 (s .args .z) in
-    let own : toZ w8 (ofZ w8 (getD (ds .result) i (pos 0))) ≡ getD (ds .result) i (pos 0) = rw worked (toZ-ofZ (digit-fits (getD (digits 16 (s .args .z)) i (pos 0)) (digits-are 16 (s .args .z) i))) in
+    let long : length (ds .result) ≡ positions = ap (length {A = ℤ}) worked ∙ digits-length positions (s .args .z) in
+    let own : toZ w8 (ofZ w8 (getD (ds .result) i (pos 0))) ≡ getD (ds .result) i (pos 0) = rw worked (toZ-ofZ (digit-fits (getD (digits positions (s .args .z)) i (pos 0)) (digits-are positions (s .args .z) i))) in
     let row : rowTerms (c .with-digit .result) ≡ rowTerms (h .loop .row) ++ columnTerms (s .args .column) i (getD (ds .result) i (pos 0) ∷ []) =
     c .with-digit .ensures ∙ ap (λ (d : ℤ). rowTerms (h .loop .row) ++ columnTerms (s .args .column) i (d ∷ [])) own in
     (omega arith, rw row (sym (column-next (s .args .column) (ds .result) i (rowTerms (h .loop .row)) (omega arith)) ∙ h .loop .inv .1))
@@ -74,8 +75,8 @@ returns c =
     let h = c .before in
     let s = h .before .before in
     let ds = h .before .digits in
-    let worked : ds .result ≡ digits 16 (s .args .z) = ds .ensures ∙ ap (digits 16) (is (held (s .fits .z))) in
-    let sixteen : length (ds .result) ≡ 16 = ap (length {A = ℤ}) worked ∙ digits-length 16 (s .args .z) in
+    let worked : ds .result ≡ digits positions (s .args .z) = ds .ensures ∙ ap (digits positions) (is (held (s .fits .z))) in
+    let long : length (ds .result) ≡ positions = ap (length {A = ℤ}) worked ∙ digits-length positions (s .args .z) in
     sym (column-end (s .args .column) (ds .result) (h .loop .i) (rowTerms (h .loop .row)) (omega arith))
     ∙ h .loop .inv .1
     ∙ ap (λ (l : List ℤ). rowTerms (s .args .self) ++ columnTerms (s .args .column) 0 l) worked

@@ -4,6 +4,7 @@ use mathlib.Core.List.{[]}
 use Prim.Native.Nat.{_<_}
 use native.Mathlib.Omega.{arith}
 use lib.ListN.{length, take, length-map, List·getD-map}
+use Rattle.limits.specs.Limits.{maxRows}
 use Rattle.eliminate.specs.declared.row.Row.{Row}
 use Rattle.eliminate.specs.State.{rowTerms, rowsTerms}
 use Rattle.eliminate.proofs.Filled.{within, filled-at}
@@ -20,8 +21,8 @@ below : (c : lts.Start reads.Pre reads.Post) → c .args .i < length (take (c .a
 unfolding rowsTerms
 below c = omega (arith, c .pre, length-map (take (c .args .t1 .m) (c .args .t1 .rows)) rowTerms)
 
-inside : (c : lts.Start reads.Pre reads.Post) → c .args .i < 8
-inside c = within (c .args .t1 .rows) (c .args .t1 .m) 8 (simp length-map at (c .good .0 .1 .1 .0 .1 .0 .1)) (c .args .i) (below c)
+inside : (c : lts.Start reads.Pre reads.Post) → c .args .i < maxRows
+inside c = within (c .args .t1 .rows) (c .args .t1 .m) maxRows (simp length-map at (c .good .0 .1 .1 .0 .1 .0 .1)) (c .args .i) (below c)
 
 mul-result : tie.Need-mul-result
 mul-result c = omega (arith, inside c)
@@ -34,7 +35,7 @@ unfolding rowsTerms rowTerms
 returns c =
     let s = c .before in
     let rows = s .args .t1 in
-    ap rowTerms (filled-at (rows .rows) (rows .m) 8 (simp length-map at (s .good .0 .1 .1 .0 .1 .0 .1)) (s .args .i) noRow (below s))
+    ap rowTerms (filled-at (rows .rows) (rows .m) maxRows (simp length-map at (s .good .0 .1 .1 .0 .1 .0 .1)) (s .args .i) noRow (below s))
     ∙ sym (List·getD-map rowTerms (take (rows .m) (rows .rows)) (s .args .i) noRow)
 
 pub row-spec : {M : Type 1} → statement M

@@ -4,6 +4,7 @@ use mathlib.Core.List.{[], _∷_, map, map-append}
 use Prim.Native.Nat.{_<_}
 use native.Mathlib.Omega.{arith}
 use lib.ListN.{take, length-map}
+use Rattle.limits.specs.Limits.{maxRows}
 use Rattle.eliminate.specs.State.{rowTerms, rowsTerms}
 use Rattle.eliminate.proofs.Filled.{room, filled-more}
 use Rattle.eliminate.proofs.rows.Rows.with_row.Statement.{statement}
@@ -11,11 +12,11 @@ use Rattle.eliminate.proofs.rows.Rows.with_row.Tie as tie
 use Rattle.eliminate.proofs.rows.Rows.with_row.Reads as reads
 use Rattle.eliminate.proofs.rows.Rows.with_row.Lts as lts
 
-has-room : (c : lts.Start reads.Pre reads.Post) → c .args .self .m < 8
+has-room : (c : lts.Start reads.Pre reads.Post) → c .args .self .m < maxRows
 unfolding rowsTerms
 has-room c =
     let rows = c .args .self in
-    room (rows .rows) (rows .m) 8 (simp length-map at (c .good .0 .1 .1 .0 .1 .0 .1)) (omega (arith, c .pre, length-map (take (rows .m) (rows .rows)) rowTerms))
+    room (rows .rows) (rows .m) maxRows (simp length-map at (c .good .0 .1 .1 .0 .1 .0 .1)) (omega (arith, c .pre, length-map (take (rows .m) (rows .rows)) rowTerms))
 
 mul-row : tie.Need-mul-row
 mul-row c = omega (arith, has-room c)
@@ -30,7 +31,7 @@ returns : tie.Need-returns
 unfolding rowsTerms
 returns c =
     let rows = c .args .self in
-    ap (map rowTerms) (filled-more (rows .rows) (rows .m) 8 (simp length-map at (c .good .0 .1 .1 .0 .1 .0 .1)) (c .args .row) (has-room c))
+    ap (map rowTerms) (filled-more (rows .rows) (rows .m) maxRows (simp length-map at (c .good .0 .1 .1 .0 .1 .0 .1)) (c .args .row) (has-room c))
     ∙ map-append rowTerms (take (rows .m) (rows .rows)) (c .args .row ∷ [])
 
 pub with-row-spec : {M : Type 1} → statement M
