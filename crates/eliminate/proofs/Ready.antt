@@ -22,7 +22,7 @@ use Rattle.elimination.proofs.Replaced.{length-after}
 use Rattle.elimination.proofs.LookupAfter.{row-after-looked-up}
 use Rattle.elimination.proofs.LookupPick.{pick-looked-up, pick-proper}
 use Rattle.eliminate.specs.State.{Ready}
-use Rattle.eliminate.specs.Signs.{Within, Placed, tableSigns, rowsSignsFrom, signTable}
+use Rattle.eliminate.specs.Signs.{TermsWithin, Placed, tableSigns, rowsSignsFrom, signTable}
 use Rattle.eliminate.specs.Step.{StepAnswer, stepAnswer, rowAfterBy}
 use Rattle.eliminate.proofs.Members.{member-at}
 use Rattle.eliminate.proofs.SignTable.{table-signs}
@@ -37,7 +37,7 @@ module _ (symbol : ℕ) (rows : List Row) (ready : Ready symbol rows) where
   ascending r m = each-row (WellFormed positions symbol) rows (ready .well-formed) r m .ascending
 
   module _ (limit : symbol < termSymbols) where
-    within : (r : Row) → List·Memᴰ r rows → Within r
+    within : (r : Row) → List·Memᴰ r rows → TermsWithin r
     within r m t k =
         let w = each-row (WellFormed positions symbol) rows (ready .well-formed) r m in
         (omega (arith, w .symbols t k), w .exponents t k)
@@ -70,7 +70,7 @@ module _ (symbol : ℕ) (rows : List Row) (ready : Ready symbol rows) where
 
     -- the row after a step
     module _ (i : ℕ) (h : i < length rows) where
-      pub row-within : Within (getD rows i [])
+      pub row-within : TermsWithin (getD rows i [])
       row-within = within (getD rows i []) (member-at rows i [] h)
 
       pub row-short : length (getD rows i []) ≤ maxTerms

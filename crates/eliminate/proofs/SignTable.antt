@@ -17,7 +17,7 @@ use Rattle.elimination.specs.Rows.{Row, Precedes, Ascending}
 use Rattle.elimination.specs.Lookup.{signAt, signNumber}
 use Rattle.elimination.proofs.Tests.{by-bool, and-left, and-right, and-both, clash}
 use Rattle.lookup.proofs.Looking.{stands, stands-yes, stands-no, sign-here, sign-later}
-use Rattle.eliminate.specs.Signs.{blankSigns, Within, Placed, tableSize, place, tableSigns, enteredTerms, enteredRows, signTable}
+use Rattle.eliminate.specs.Signs.{blankSigns, TermsWithin, Placed, tableSize, place, tableSigns, enteredTerms, enteredRows, signTable}
 use Rattle.eliminate.proofs.Members.{member-at, left-next, left-none}
 use Rattle.eliminate.proofs.Places.{place-below, place-same}
 
@@ -34,10 +34,10 @@ alone t u s e (inr p) x y = omega arith
 
 -- ---- a symbol or exponent that has no place has no term
 
-within-tail : (t : Term) (r : Row) → Within (t ∷ r) → Within r
+within-tail : (t : Term) (r : Row) → TermsWithin (t ∷ r) → TermsWithin r
 within-tail t r w u m = w u (List·Memᴰ·tail m)
 
-no-sign : (r : Row) (s e : ℕ) → Within r → (s < termSymbols → e < positions → ⊥) → signAt r s e ≡ 0
+no-sign : (r : Row) (s e : ℕ) → TermsWithin r → (s < termSymbols → e < positions → ⊥) → signAt r s e ≡ 0
 no-sign [] s e w h = unfold signAt in refl
 no-sign (t ∷ r) s e w h =
     by-bool (stands s e t)
@@ -65,7 +65,7 @@ entered-end i table r j h = ap (enteredTerms i table) (left-none r j h)
 
 module _ (i k s e : ℕ) (hs : s < termSymbols) (he : e < positions) where
   -- a place where no term of the row stands
-  untouched : (table : List ℕ) (r : Row) → Within r → ((t : Term) → List·Memᴰ t r → i ≡ k → Stands t s e → ⊥)
+  untouched : (table : List ℕ) (r : Row) → TermsWithin r → ((t : Term) → List·Memᴰ t r → i ≡ k → Stands t s e → ⊥)
       → getD (enteredTerms i table r) (place k s e) 0 ≡ getD table (place k s e) 0
   unfolding enteredTerms
   untouched table [] w h = refl
@@ -78,7 +78,7 @@ module _ (i k s e : ℕ) (hs : s < termSymbols) (he : e < positions) where
       h t (List·Memᴰ·head refl) (sym (same .0)) (sym (same .1), sym (same .2)))
 
 -- the row's own places
-entered-own : (i s e : ℕ) → s < termSymbols → e < positions → (table : List ℕ) (r : Row) → Ascending r → Within r
+entered-own : (i s e : ℕ) → s < termSymbols → e < positions → (table : List ℕ) (r : Row) → Ascending r → TermsWithin r
     → place i s e < length table → getD table (place i s e) 0 ≡ 0
     → getD (enteredTerms i table r) (place i s e) 0 ≡ signAt r s e
 unfolding enteredTerms

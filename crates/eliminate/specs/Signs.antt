@@ -16,12 +16,12 @@ unfoldable pub blankSigns : ℕ → List ℕ
 blankSigns size = replicate size 0
 
 -- every term of a row has a place
-abbrev pub Within : Row → Type 0
-Within r = (t : Term) → List·Memᴰ t r → (t .symbol < termSymbols) × (t .exponent < positions)
+abbrev pub TermsWithin : Row → Type 0
+TermsWithin r = (t : Term) → List·Memᴰ t r → (t .symbol < termSymbols) × (t .exponent < positions)
 
 -- and the rows are in order besides
 abbrev pub Placed : List Row → Type 0
-Placed rows = (r : Row) → List·Memᴰ r rows → Ascending r × Within r
+Placed rows = (r : Row) → List·Memᴰ r rows → Ascending r × TermsWithin r
 
 -- a place for each row, symbol and exponent
 abbrev pub tableSize : ℕ

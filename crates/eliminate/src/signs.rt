@@ -10,7 +10,7 @@ ghost use mathlib.Core.Path.{_≡_};
 ghost use Prim.Native.Nat.{_<_, _≤_};
 ghost use lib.ListN.{length};
 ghost use Rattle.limits.specs.Limits.{maxRows, positions, termSymbols};
-ghost use Rattle.eliminate.specs.Signs.{Within, Placed, tableSize, place, blankSigns, tableSigns, enteredTerms, signTable};
+ghost use Rattle.eliminate.specs.Signs.{TermsWithin, Placed, tableSize, place, blankSigns, tableSigns, enteredTerms, signTable};
 ghost use Rattle.eliminate.specs.State.{rowTerms, rowsTerms};
 
 // A sign for each row, symbol and exponent.
@@ -55,7 +55,7 @@ fn place_of(i: usize, t: Term) -> usize
 
 // The terms of a row are entered one by one.
 fn enter_row(signs: &mut [u8; SIZE], i: usize, row: Row)
-    requires { ⌜ (i < maxRows) × Within (rowTerms row) ⌝ }
+    requires { ⌜ (i < maxRows) × TermsWithin (rowTerms row) ⌝ }
     ensures { λ _. ⌜ now (signs .exit) ≡ enteredTerms i (now (signs .entry)) (rowTerms row) ⌝ }
 {
     let count = row.count();

@@ -16,7 +16,7 @@ ghost use Rattle.limits.specs.Limits.{maxRows, positions, maxTerms, termSymbols
 ghost use Rattle.elimination.specs.Lookup.{partAs, partOfTaken, keptTerms, signAt, lookupTerm, lookupTermsFrom, Proper};
 ghost use Rattle.elimination.specs.Elimination.{rowsAfter};
 ghost use Rattle.eliminate.specs.State.{rowTerms, rowsTerms, Ready};
-ghost use Rattle.eliminate.specs.Signs.{Within, tableSigns, signTable};
+ghost use Rattle.eliminate.specs.Signs.{TermsWithin, tableSigns, signTable};
 ghost use Rattle.eliminate.specs.Step.{rowAfterBy, stepAnswerOf, stepAnswer};
 
 // The rows after a step, its divisor and the number of pairs replaced: 0 where elimination has ended, and the rows are as they were.
@@ -55,7 +55,7 @@ fn part_of_taken(d: Divisor, flags: [bool; POSITIONS], t: Term) -> bool
 
 // The terms that are part of no taken occurrence.
 fn kept(d: Divisor, flags: [bool; POSITIONS], row: Row) -> Row
-    requires { ⌜ Within (rowTerms row) × (length (rowTerms row) ≤ maxTerms) ⌝ }
+    requires { ⌜ TermsWithin (rowTerms row) × (length (rowTerms row) ≤ maxTerms) ⌝ }
     ensures { λ r. ⌜ rowTerms r ≡ keptTerms d flags (rowTerms row) ⌝ }
 {
     let count = row.count();
@@ -99,7 +99,7 @@ fn with_new_terms(row: Row, symbol: u16, d: Divisor, flags: [bool; POSITIONS], r
 
 // The new symbol is the largest, so the new terms stand last.
 fn row_after(signs: &[u8; SIZE], i: usize, symbol: u16, d: Divisor, row: Row) -> Row
-    requires { ⌜ (i < maxRows) × (symbol < termSymbols) × Within (rowTerms row) × (length (rowTerms row) ≤ maxTerms) × (length (rowAfterBy positions symbol d (tableSigns (now signs) i) (rowTerms row)) ≤ maxTerms) ⌝ }
+    requires { ⌜ (i < maxRows) × (symbol < termSymbols) × TermsWithin (rowTerms row) × (length (rowTerms row) ≤ maxTerms) × (length (rowAfterBy positions symbol d (tableSigns (now signs) i) (rowTerms row)) ≤ maxTerms) ⌝ }
     ensures { λ r. ⌜ rowTerms r ≡ rowAfterBy positions symbol d (tableSigns (now (signs .entry)) i) (rowTerms row) ⌝ }
 {
     let taken = score::taken_in_row(signs, i, d);
