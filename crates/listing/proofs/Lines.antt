@@ -7,7 +7,7 @@ use borrow.Author.Tests.{eq-eqb, ne-eqb}
 use Rattle.layout.specs.declared.Operation.{Operation}
 use Rattle.layout.specs.declared.Output.{Output}
 use Rattle.listing.specs.Decimal.{number}
-use Rattle.listing.specs.Listing.{ascii, shifted, countsLine, operationSign, operationLine, entryText, valueText, outputLine, placeText, refusedLine}
+use Rattle.listing.specs.Listing.{ascii, shiftedOperand, countsLine, operationSign, operationLine, entryText, valueText, outputLine, placeText, refusedLine}
 use Rattle.listing.specs.declared.Counts.{Counts}
 
 -- three or four parts behind what stands before
@@ -34,17 +34,17 @@ counts-parts c =
     ∙ three (second ++ ascii " divisors " ++ number (c .divisors) ++ ascii " replacements " ++ number (c .replacements)) (ascii " depth ") (number (c .depth)) (ascii "\n")
 
 pub second-add : (o : Operation) → o .sign ≡ 0
-    → ascii " + " ++ number (o .b) ++ ascii "<<" ++ number (o .sb) ≡ operationSign (o .sign) ++ shifted (o .b) (o .sb)
+    → ascii " + " ++ number (o .b) ++ ascii "<<" ++ number (o .sb) ≡ operationSign (o .sign) ++ shiftedOperand (o .b) (o .sb)
 second-add o e = rw (eq-eqb (o .sign) 0 e)
 
 pub second-subtract : (o : Operation) → (o .sign ≡ 0 → ⊥)
-    → ascii " - " ++ number (o .b) ++ ascii "<<" ++ number (o .sb) ≡ operationSign (o .sign) ++ shifted (o .b) (o .sb)
+    → ascii " - " ++ number (o .b) ++ ascii "<<" ++ number (o .sb) ≡ operationSign (o .sign) ++ shiftedOperand (o .b) (o .sb)
 second-subtract o e = rw (ne-eqb (o .sign) 0 e)
 
 pub operation-parts : (symbol : ℕ) (o : Operation)
     → (ascii "" ++ number symbol)
     ++ (ascii " = " ++ number (o .a) ++ ascii "<<" ++ number (o .sa))
-    ++ (operationSign (o .sign) ++ shifted (o .b) (o .sb))
+    ++ (operationSign (o .sign) ++ shiftedOperand (o .b) (o .sb))
     ++ (ascii " width " ++ number (o .width) ++ ascii "\n")
     ≡ operationLine symbol o
 unfolding operationLine

@@ -1,68 +1,76 @@
 -- A loop that writes a line for each record of one kind: what is written and what is left make the whole.
 -- Assumes nothing.
 use Prim.Native.Nat.{ℕ, suc, _+_, _-_, _<_, _≤_}
-use mathlib.Core.Path.{_≡_, refl, sym, ap, ap₂, subst, _∙_}
+use mathlib.Core.Path.{_≡_, sym, ap, ap₂, _∙_}
 use mathlib.Core.List.{List, [], _∷_, _++_, append-assoc, append-nil}
 use native.Mathlib.Omega.{arith}
-use native.Mathlib.Numerals.{add-one}
-use lib.ListN.{length, take, drop}
-use lib.Seq.{take-at}
+use lib.ListN.{length, take, drop, drop-of-length-le}
+use lib.Seq.{take-at, drop-cons}
 use borrow.Rule.Slice.PartMut.{putMid}
+use Rattle.layout.specs.Places.{payloadOf, firstRecords}
+use Rattle.layout.proofs.FirstRecords.{length-first, getD-first}
 use Rattle.listing.specs.Listing.{lines}
-use Rattle.listing.specs.Records.{recordsFrom}
 use Rattle.listing.specs.Wrote.{Wrote}
 use Rattle.listing.proofs.Wrote.{wrote-as, wrote-more, wrote-nothing}
 
-module _ {A : Type 0} (line : ℕ → A → List ℕ) (fields : List ℕ → A) (size : ℕ) (bytes : List ℕ) (end : ℕ) where
-  -- the lines of the records from a place on, numbered from the first number up to the end
-  abbrev pub left : ℕ → ℕ → List ℕ
-  left number place = lines line number (recordsFrom fields size bytes place (end - number))
+-- the bytes from 4 behind a place up to a record's end are its payload
+pub payload-part : (bytes : List ℕ) (size : ℕ) {at place : ℕ} → at ≡ place → take (at + size - (at + 4)) (drop (at + 4) bytes) ≡ payloadOf bytes place size
+payload-part bytes size {at} {place} e =
+    let counted : at + size - (at + 4) ≡ size - 4 = omega arith in
+    ap₂ (λ (s p : ℕ). take s (drop (p + 4) bytes)) counted e
 
-  left-more : (number place : ℕ) → number < end
-      → left number place ≡ line number (fields (take size (drop (place + 4) bytes))) ++ left (number + 1) (place + (4 + size))
-  unfolding lines recordsFrom
-  left-more number place h =
-      ap (λ (k : ℕ). lines line number (recordsFrom fields size bytes place k)) one
-      ∙ ap (λ (n : ℕ). line number (fields (take size (drop (place + 4) bytes))) ++ lines line n (recordsFrom fields size bytes (place + (4 + size)) (end - (number + 1)))) (sym (add-one number))
-    where
-      one : end - number ≡ suc (end - (number + 1))
-      one = omega arith
+-- so many records, their lines numbered from the first number on
+module _ {A : Type 0} (line : ℕ → A → List ℕ) (first : ℕ) (fields : ℕ → A) (total : ℕ) where
+  abbrev records : List A
+  records = firstRecords fields total
 
-  left-none : (number place : ℕ) → end ≤ number → left number place ≡ []
-  unfolding lines recordsFrom
-  left-none number place h = ap (λ (k : ℕ). lines line number (recordsFrom fields size bytes place k)) none
-    where
-      none : end - number ≡ 0
-      none = omega arith
+  -- the lines of the records from number k on
+  abbrev pub left : ℕ → List ℕ
+  left k = lines line (first + k) (drop k records)
 
-  module _ (before whole : List ℕ) where
+  left-more : (k : ℕ) → k < total → left k ≡ line (first + k) (fields k) ++ left (k + 1)
+  unfolding lines
+  left-more k h =
+      let next : suc (first + k) ≡ first + (k + 1) = omega arith in
+      let behind : suc k ≡ k + 1 = omega arith in
+      ap (lines line (first + k)) (drop-cons records k (fields k) (omega (arith, length-first fields total)))
+      ∙ ap₂ (λ (x : A) (rest : List ℕ). line (first + k) x ++ rest) (getD-first fields total k (fields k) h)
+      (ap₂ (λ (n j : ℕ). lines line n (drop j records)) next behind)
+
+  left-none : (k : ℕ) → total ≤ k → left k ≡ []
+  unfolding lines
+  left-none k h = ap (lines line (first + k)) (drop-of-length-le records {i = k} (omega (arith, length-first fields total)))
+
+  module _ (before : List ℕ) where
     -- in the text's first bytes stands what was written; with what is left it is the whole
-    pub record Listed (text : List ℕ) (at number place : ℕ) : Type 0 where
+    pub record Listed (text : List ℕ) (at k : ℕ) : Type 0 where
       pub done : Wrote before text at (take at text)
-      pub all : take at text ++ left number place ≡ whole
+      pub all : take at text ++ left k ≡ lines line first records
 
-    pub listed-start : (number place : ℕ) → left number place ≡ whole → Listed before 0 number place
-    listed-start number place e = record { done = wrote-nothing before; all = e }
+    pub listed-start : Listed before 0 0
+    listed-start =
+        let start : first + 0 ≡ first = omega arith in
+        record { done = wrote-nothing before; all = ap (λ (n : ℕ). lines line n records) start }
 
-    pub listed-more : {text part : List ℕ} {at number place count next : ℕ} {x : A} → Listed text at number place
-        → number < end
-        → x ≡ fields (take size (drop (place + 4) bytes))
+    pub listed-more : {text part : List ℕ} {at k number count : ℕ} {x : A} → Listed text at k
+        → k < total
+        → x ≡ fields k
+        → number ≡ first + k
         → Wrote (take (length text - at) (drop at text)) part count (line number x)
-        → next ≡ place + (4 + size)
-        → Listed (putMid at (length text - at) text part) (at + count) (number + 1) next
-    listed-more {text} {part} {at} {number} {place} {count} {next} {x} l h read w n =
+        → Listed (putMid at (length text - at) text part) (at + count) (k + 1)
+    listed-more {text} {part} {at} {k} {number} {count} {x} l h read numbered w =
         let more : Wrote before (putMid at (length text - at) text part) (at + count) (take at text ++ line number x) = wrote-more (l .done) w in
         let taken : take (at + count) (putMid at (length text - at) text part) ≡ take at text ++ line number x =
         ap (take (at + count)) (more .text) ∙ take-at (take at text ++ line number x) _ (at + count) (sym (more .counted)) in
         record {
           done = wrote-as (sym taken) more;
-          all = ap₂ (λ (t : List ℕ) (p : ℕ). t ++ left (number + 1) p) taken n
-              ∙ append-assoc (take at text) (line number x) (left (number + 1) (place + (4 + size)))
-              ∙ ap (λ (y : A). take at text ++ (line number y ++ left (number + 1) (place + (4 + size)))) read
-              ∙ ap (λ (t : List ℕ). take at text ++ t) (sym (left-more number place h))
+          all = ap (λ (t : List ℕ). t ++ left (k + 1)) taken
+              ∙ append-assoc (take at text) (line number x) (left (k + 1))
+              ∙ ap₂ (λ (n : ℕ) (y : A). take at text ++ (line n y ++ left (k + 1))) numbered read
+              ∙ ap (λ (t : List ℕ). take at text ++ t) (sym (left-more k h))
               ∙ l .all;
         }
 
-    pub listed-end : {text : List ℕ} {at number place : ℕ} → Listed text at number place → end ≤ number → Wrote before text at whole
-    listed-end {text} {at} {number} {place} l h =
-        wrote-as (sym (append-nil (take at text)) ∙ ap (λ (t : List ℕ). take at text ++ t) (sym (left-none number place h)) ∙ l .all) (l .done)
+    pub listed-end : {text : List ℕ} {at k : ℕ} → Listed text at k → total ≤ k → Wrote before text at (lines line first records)
+    listed-end {text} {at} {k} l h =
+        wrote-as (sym (append-nil (take at text)) ∙ ap (λ (t : List ℕ). take at text ++ t) (sym (left-none k h)) ∙ l .all) (l .done)

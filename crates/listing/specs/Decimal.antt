@@ -6,13 +6,13 @@ use mathlib.Core.List.{List, [], _∷_, _++_}
 use lib.Dec.{ltb}
 
 -- the byte of a digit: that of 0 is 48
-abbrev pub digit : ℕ → ℕ
-digit d = 48 + d
+abbrev pub digitByte : ℕ → ℕ
+digitByte d = 48 + d
 
 -- a number's digits, highest first, at most so many of them
 unfoldable pub decimal : ℕ → ℕ → List ℕ
 decimal zero n = []
-decimal (suc most) n = elim (ltb n 10) [ true ↦ digit n ∷ [] | false ↦ decimal most (n / 10) ++ (digit (n % 10) ∷ []) ]
+decimal (suc most) n = elim (ltb n 10) [ true ↦ digitByte n ∷ [] | false ↦ decimal most (n / 10) ++ (digitByte (n % 10) ∷ []) ]
 
 -- a number n has at most n + 1 digits
 unfoldable pub number : ℕ → List ℕ

@@ -36,8 +36,8 @@ countsLine c =
     ++ ascii "\n"
 
 -- operand<<shift
-abbrev pub shifted : ℕ → ℕ → List ℕ
-shifted operand shift = number operand ++ ascii "<<" ++ number shift
+abbrev pub shiftedOperand : ℕ → ℕ → List ℕ
+shiftedOperand operand shift = number operand ++ ascii "<<" ++ number shift
 
 -- an operation's sign: + for 0, add; - for 1, subtract
 abbrev pub operationSign : ℕ → List ℕ
@@ -48,9 +48,9 @@ unfoldable pub operationLine : ℕ → Operation → List ℕ
 operationLine symbol o =
     number symbol
     ++ ascii " = "
-    ++ shifted (o .a) (o .sa)
+    ++ shiftedOperand (o .a) (o .sa)
     ++ operationSign (o .sign)
-    ++ shifted (o .b) (o .sb)
+    ++ shiftedOperand (o .b) (o .sb)
     ++ ascii " width "
     ++ number (o .width)
     ++ ascii "\n"
@@ -61,7 +61,7 @@ outputSign sign = cond (eqb sign 0) [] (ascii "-")
 
 -- an output that is not zero: sign, symbol<<shift
 abbrev pub entryText : Output → List ℕ
-entryText o = ascii " = " ++ outputSign (o .sign) ++ shifted (o .symbol) (o .shift)
+entryText o = ascii " = " ++ outputSign (o .sign) ++ shiftedOperand (o .symbol) (o .shift)
 
 -- what stands behind an output's row; zero where the sign is 2
 unfoldable pub valueText : Output → List ℕ

@@ -3,6 +3,7 @@
 use Prim.Native.Nat.{ℕ}
 use mathlib.Core.Path.{_≡_}
 use mathlib.Core.List.{List, [], _∷_}
+use Rattle.limits.specs.Limits.{maxRows, maxOperations}
 use Rattle.layout.specs.declared.Operation.{Operation}
 use Rattle.layout.specs.declared.Output.{Output}
 use Rattle.listing.specs.Listing.{ascii, operationLine, outputLine, listing, refusedLine}
@@ -35,4 +36,4 @@ pub record MarkedListing : Type 0 where
   -- no bytes on standard input
   pub refused : refusedLine 1 0 ≡ ascii "refused 1 at 0\n"
   -- bytes that hold the text of every compiled netlist
-  pub longest : room 504 8 ≡ 24598
+  pub longest : room maxOperations maxRows ≡ 24598

@@ -2,16 +2,30 @@
 // starts at the current place, returns the number of bytes it wrote, and leaves what stands behind them as it was.
 use layout::Operation;
 use layout::Output;
+use layout::places::HEAD_LENGTH;
+use layout::places::OPERATION_LENGTH;
+use layout::places::OUTPUT_LENGTH;
+use layout::places::operation_place;
+use layout::places::output_place;
 use layout::read::read_operation;
 use layout::read::read_output;
 ghost use mathlib.Core.Path.{_≡_};
 ghost use mathlib.Core.List.{_++_};
 ghost use Prim.Native.Nat.{_+_, _*_, _<_, _≤_};
 ghost use lib.ListN.{length, drop};
+ghost use Rattle.layout.specs.Records.{headLength};
+ghost use Rattle.layout.specs.Places.{operationPlace, outputPlace, firstOperations, firstOutputs};
 ghost use Rattle.listing.specs.Decimal.{number};
-ghost use Rattle.listing.specs.Listing.{ascii, shifted, countsLine, operationSign, operationLine, entryText, valueText, outputLine, lines, placeText, refusedLine};
-ghost use Rattle.listing.specs.Records.{operationsIn, outputsIn, listingOf, room};
+ghost use Rattle.listing.specs.Listing.{ascii, shiftedOperand, countsLine, operationSign, operationLine, entryText, valueText, outputLine, lines, placeText, refusedLine};
+ghost use Rattle.listing.specs.Records.{listingOf, longestCountsLine, longestOperationLine, longestOutputLine, longestRefusedLine, room};
 ghost use Rattle.listing.specs.Wrote.{Wrote};
+
+// Bytes that hold the first line, an operation's and an output's.
+pub const LONGEST_COUNTS_LINE: usize = 102;
+
+pub const LONGEST_OPERATION_LINE: usize = 48;
+
+pub const LONGEST_OUTPUT_LINE: usize = 38;
 
 // The counts of the first line.
 pub struct Counts {
@@ -74,9 +88,9 @@ fn write_last(label: &[u8], value: u16, text: &mut [u8]) -> usize
 
 // The first line: the counts.
 pub fn write_counts(counts: Counts, text: &mut [u8]) -> usize
-    requires { ⌜ 102 ≤ length (now text) ⌝ }
+    requires { ⌜ longestCountsLine ≤ length (now text) ⌝ }
     ensures { λ r. ⌜ Wrote (now (text .entry)) (now (text .exit)) r (countsLine counts) ⌝ }
-    ensures { λ r. ⌜ r ≤ 102 ⌝ }
+    ensures { λ r. ⌜ r ≤ longestCountsLine ⌝ }
 {
     let inputs = write_pair(
         b"inputs ",
@@ -107,7 +121,7 @@ pub fn write_counts(counts: Counts, text: &mut [u8]) -> usize
 // An operation's sign and its second operand.
 fn write_second(operation: Operation, text: &mut [u8]) -> usize
     requires { ⌜ 15 ≤ length (now text) ⌝ }
-    ensures { λ r. ⌜ Wrote (now (text .entry)) (now (text .exit)) r (operationSign (operation .sign) ++ shifted (operation .b) (operation .sb)) ⌝ }
+    ensures { λ r. ⌜ Wrote (now (text .entry)) (now (text .exit)) r (operationSign (operation .sign) ++ shiftedOperand (operation .b) (operation .sb)) ⌝ }
     ensures { λ r. ⌜ r ≤ 15 ⌝ }
 {
     if operation.sign == 0 {
@@ -118,9 +132,9 @@ fn write_second(operation: Operation, text: &mut [u8]) -> usize
 
 // The line of the operation with a symbol.
 pub fn write_operation(symbol: u16, operation: Operation, text: &mut [u8]) -> usize
-    requires { ⌜ 48 ≤ length (now text) ⌝ }
+    requires { ⌜ longestOperationLine ≤ length (now text) ⌝ }
     ensures { λ r. ⌜ Wrote (now (text .entry)) (now (text .exit)) r (operationLine symbol operation) ⌝ }
-    ensures { λ r. ⌜ r ≤ 48 ⌝ }
+    ensures { λ r. ⌜ r ≤ longestOperationLine ⌝ }
 {
     let first = write_labelled(b"", symbol, text);
     let sign = first
@@ -162,9 +176,9 @@ fn write_value(output: Output, text: &mut [u8]) -> usize
 
 // The line of a row's output.
 pub fn write_output(row: u16, output: Output, text: &mut [u8]) -> usize
-    requires { ⌜ 38 ≤ length (now text) ⌝ }
+    requires { ⌜ longestOutputLine ≤ length (now text) ⌝ }
     ensures { λ r. ⌜ Wrote (now (text .entry)) (now (text .exit)) r (outputLine row output) ⌝ }
-    ensures { λ r. ⌜ r ≤ 38 ⌝ }
+    ensures { λ r. ⌜ r ≤ longestOutputLine ⌝ }
 {
     let at = write_labelled(b"row ", row, text);
     at + write_value(output, &mut text[at..])
@@ -173,39 +187,38 @@ pub fn write_output(row: u16, output: Output, text: &mut [u8]) -> usize
 // The lines of a netlist's operations, with symbols from the number of inputs on.
 fn write_operations(inputs: u16, operations: u16, netlist: &[u8], text: &mut [u8]) -> usize
     requires { ⌜ inputs + operations < 65536 ⌝ }
-    requires { ⌜ 8 + 12 * operations ≤ length (now netlist) ⌝ }
-    requires { ⌜ 48 * operations ≤ length (now text) ⌝ }
-    ensures { λ r. ⌜ Wrote (now (text .entry)) (now (text .exit)) r (lines operationLine inputs (operationsIn (now (netlist .entry)) operations)) ⌝ }
-    ensures { λ r. ⌜ r ≤ 48 * operations ⌝ }
+    requires { ⌜ operationPlace headLength operations ≤ length (now netlist) ⌝ }
+    requires { ⌜ longestOperationLine * operations ≤ length (now text) ⌝ }
+    ensures { λ r. ⌜ Wrote (now (text .entry)) (now (text .exit)) r (lines operationLine inputs (firstOperations (now (netlist .entry)) operations)) ⌝ }
+    ensures { λ r. ⌜ r ≤ longestOperationLine * operations ⌝ }
 {
-    let end = inputs + operations;
-    let mut symbol = inputs;
-    let mut place: usize = 8;
+    let mut k: u16 = 0;
     let mut at: usize = 0;
-    while symbol < end {
+    while k < operations {
+        let place = operation_place(HEAD_LENGTH, k as usize);
         let payload = place + 4;
-        place += 12;
-        let operation = read_operation(&netlist[payload..place]);
-        at += write_operation(symbol, operation, &mut text[at..]);
-        symbol += 1;
+        let end = place + OPERATION_LENGTH;
+        let operation = read_operation(&netlist[payload..end]);
+        at += write_operation(inputs + k, operation, &mut text[at..]);
+        k += 1;
     }
     at
 }
 
 // The lines of a netlist's outputs, with rows from 0 on.
 fn write_outputs(operations: u16, outputs: u16, netlist: &[u8], text: &mut [u8]) -> usize
-    requires { ⌜ 8 + 12 * operations + 9 * outputs ≤ length (now netlist) ⌝ }
-    requires { ⌜ 38 * outputs ≤ length (now text) ⌝ }
-    ensures { λ r. ⌜ Wrote (now (text .entry)) (now (text .exit)) r (lines outputLine 0 (outputsIn (now (netlist .entry)) operations outputs)) ⌝ }
-    ensures { λ r. ⌜ r ≤ 38 * outputs ⌝ }
+    requires { ⌜ outputPlace headLength operations outputs ≤ length (now netlist) ⌝ }
+    requires { ⌜ longestOutputLine * outputs ≤ length (now text) ⌝ }
+    ensures { λ r. ⌜ Wrote (now (text .entry)) (now (text .exit)) r (lines outputLine 0 (firstOutputs (now (netlist .entry)) operations outputs)) ⌝ }
+    ensures { λ r. ⌜ r ≤ longestOutputLine * outputs ⌝ }
 {
     let mut row: u16 = 0;
-    let mut place = 8 + 12 * (operations as usize);
     let mut at: usize = 0;
     while row < outputs {
+        let place = output_place(HEAD_LENGTH, operations as usize, row as usize);
         let payload = place + 4;
-        place += 9;
-        let output = read_output(&netlist[payload..place]);
+        let end = place + OUTPUT_LENGTH;
+        let output = read_output(&netlist[payload..end]);
         at += write_output(row, output, &mut text[at..]);
         row += 1;
     }
@@ -215,7 +228,7 @@ fn write_outputs(operations: u16, outputs: u16, netlist: &[u8], text: &mut [u8])
 // The whole text of a netlist: its counts, its operations, its outputs.
 pub fn write_listing(counts: Counts, netlist: &[u8], text: &mut [u8]) -> usize
     requires { ⌜ counts .inputs + counts .operations < 65536 ⌝ }
-    requires { ⌜ 8 + 12 * counts .operations + 9 * counts .outputs ≤ length (now netlist) ⌝ }
+    requires { ⌜ outputPlace headLength (counts .operations) (counts .outputs) ≤ length (now netlist) ⌝ }
     requires { ⌜ room (counts .operations) (counts .outputs) ≤ length (now text) ⌝ }
     ensures { λ r. ⌜ Wrote (now (text .entry)) (now (text .exit)) r (listingOf counts (now (netlist .entry))) ⌝ }
     ensures { λ r. ⌜ r ≤ room (counts .operations) (counts .outputs) ⌝ }
@@ -250,9 +263,9 @@ fn write_place(place: usize, text: &mut [u8]) -> usize
 
 // The line of a refusal.
 pub fn write_refused(refusal: u8, place: usize, text: &mut [u8]) -> usize
-    requires { ⌜ 38 ≤ length (now text) ⌝ }
+    requires { ⌜ longestRefusedLine ≤ length (now text) ⌝ }
     ensures { λ r. ⌜ Wrote (now (text .entry)) (now (text .exit)) r (refusedLine refusal place) ⌝ }
-    ensures { λ r. ⌜ r ≤ 38 ⌝ }
+    ensures { λ r. ⌜ r ≤ longestRefusedLine ⌝ }
 {
     let at = write_labelled(b"refused ", refusal as u16, text);
     at + write_place(place, &mut text[at..])

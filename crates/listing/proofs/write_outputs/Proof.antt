@@ -1,47 +1,40 @@
 -- `listing::write_outputs` meets its contract. The loop's invariant: what is written and the lines left make the whole. Assumes nothing.
-use Prim.Native.Nat.{ℕ, _+_, _*_, _-_, _≤_}
+use Prim.Native.Nat.{_+_, _*_, _-_, _≤_}
 use mathlib.Core.Path.{_≡_, refl, ap, _∙_}
 use native.Mathlib.Omega.{arith}
-use lib.ListN.{length-take, length-drop, length, take, drop}
-use Rattle.layout.specs.Records.{outputOf}
-use Rattle.listing.specs.Listing.{lines, outputLine}
-use Rattle.listing.specs.Records.{recordsFrom, outputsIn}
-use Rattle.listing.proofs.Listed.{Listed, listed-start, listed-more, listed-end}
+use lib.ListN.{length, length-take, length-drop}
+use Rattle.layout.specs.Records.{outputLength, outputOf}
+use Rattle.layout.specs.Places.{outputAt}
+use Rattle.listing.specs.Listing.{outputLine}
+use Rattle.listing.specs.Records.{longestOutputLine}
+use Rattle.listing.proofs.Listed.{Listed, listed-start, listed-more, listed-end, payload-part}
 use Rattle.listing.proofs.write_outputs.Statement.{statement}
 use Rattle.listing.proofs.write_outputs.Tie as tie
 
 abbrev Inv-loop : tie.InvT-loop
-Inv-loop operations outputs netlist text₀ row₀ place₀ at₀ text row place at =
-    Listed outputLine outputOf 5 netlist outputs text₀ (lines outputLine 0 (outputsIn netlist operations outputs)) text at row place
-    × (place + 9 * (outputs - row) ≤ length netlist)
-    × (at + 38 * (outputs - row) ≤ 38 * outputs)
+Inv-loop operations outputs netlist text₀ row₀ at₀ text row at =
+    Listed outputLine 0 (outputAt netlist operations) outputs text₀ text at row
+    × (row ≤ outputs)
+    × (at ≤ longestOutputLine * row)
     × (length text ≡ length text₀)
 
 abbrev μ-loop : tie.MeasureT-loop
-μ-loop operations outputs netlist text₀ row₀ place₀ at₀ text row place at = outputs - row
-
-mul-place : tie.Need-mul-place Inv-loop μ-loop
-mul-place c = omega arith
-
-add-place : tie.Need-add-place Inv-loop μ-loop
-add-place c = omega arith
+μ-loop operations outputs netlist text₀ row₀ at₀ text row at = outputs - row
 
 loop-holds : tie.Need-loop-holds Inv-loop μ-loop
-loop-holds c =
-    let a = c .before .before .args in
-    let count : a .outputs - 0 ≡ a .outputs = omega arith in (
-      listed-start outputLine outputOf 5 (a .netlist .now) (a .outputs) (a .text .now) (lines outputLine 0 (outputsIn (a .netlist .now) (a .operations) (a .outputs))) 0 (8 + 12 * a .operations)
-          (ap (λ (k : ℕ). lines outputLine 0 (recordsFrom outputOf 5 (a .netlist .now) (8 + 12 * a .operations) k)) count),
-      omega arith,
-      omega arith,
-      refl,
-    )
+loop-holds c = let a = c .before .before .args in (listed-start outputLine 0 (outputAt (a .netlist .now) (a .operations)) (a .outputs) (a .text .now), omega arith, omega arith, refl)
+
+cast-output-place : tie.Need-cast-output-place Inv-loop μ-loop
+cast-output-place c = omega arith
+
+output-place-requires : tie.Need-output-place-requires Inv-loop μ-loop
+output-place-requires c κs = (omega arith, omega arith, omega arith)
 
 add-payload : tie.Need-add-payload Inv-loop μ-loop
 add-payload c = omega arith
 
-add-place-2 : tie.Need-add-place-2 Inv-loop μ-loop
-add-place-2 c = omega arith
+add-end : tie.Need-add-end Inv-loop μ-loop
+add-end c = omega arith
 
 sub-read-output : tie.Need-sub-read-output Inv-loop μ-loop
 sub-read-output c = omega arith
@@ -78,15 +71,17 @@ loop-less c = omega arith
 
 loop-again : tie.Need-loop-again Inv-loop μ-loop
 loop-again c =
-    let a = c .before .before .before .before .before .before .before .before .before .before .args in
-    let l = c .before .before .before .before .before .before .before .loop in
-    let h = c .before .before .before .before .before .before .loop-test .taken in
+    let a = c .before .before .before .before .before .before .before .before .before .before .before .args in
+    let l = c .before .before .before .before .before .before .before .before .loop in
+    let h = c .before .before .before .before .before .before .before .loop-test .taken in
+    let place = c .before .before .before .before .before .before .output-place in
+    let read = c .before .before .before .before .read-output in
     let wrote = c .before .before .write-output in
-    let size : l .place + 9 - (l .place + 4) ≡ 5 = omega arith in (
-      listed-more outputLine outputOf 5 (a .netlist .now) (a .outputs) (a .text .now) (lines outputLine 0 (outputsIn (a .netlist .now) (a .operations) (a .outputs))) (l .inv .0) h
-          (c .before .before .before .before .read-output .ensures ∙ ap (λ (k : ℕ). outputOf (take k (drop (l .place + 4) (a .netlist .now)))) size)
-          (wrote .ensures .0)
-          refl,
+    let numbered : l .row ≡ 0 + l .row = omega arith in (
+      listed-more outputLine 0 (outputAt (a .netlist .now) (a .operations)) (a .outputs) (a .text .now) (l .inv .0) h
+          (read .ensures ∙ ap outputOf (payload-part (a .netlist .now) outputLength (place .ensures)))
+          numbered
+          (wrote .ensures .0),
       omega arith,
       omega (arith, wrote .ensures .1),
       omega arith,
@@ -98,10 +93,8 @@ same-length c = omega arith
 returns : tie.Need-returns Inv-loop μ-loop
 returns c =
     let a = c .before .before .before .before .args in
-    let l = c .before .loop in (
-      listed-end outputLine outputOf 5 (a .netlist .now) (a .outputs) (a .text .now) (lines outputLine 0 (outputsIn (a .netlist .now) (a .operations) (a .outputs))) (l .inv .0) (c .loop-test .left),
-      omega arith,
-    )
+    let l = c .before .loop in
+    (listed-end outputLine 0 (outputAt (a .netlist .now) (a .operations)) (a .outputs) (a .text .now) (l .inv .0) (c .loop-test .left), omega arith)
 
 pub write-outputs-spec : {M : Type 1} → statement M
 write-outputs-spec =
@@ -109,11 +102,11 @@ write-outputs-spec =
     (tie.spec
     Inv-loop
     μ-loop
-    mul-place
-    add-place
     loop-holds
+    cast-output-place
+    output-place-requires
     add-payload
-    add-place-2
+    add-end
     sub-read-output
     part-read-output-start
     part-read-output-end
