@@ -10,9 +10,10 @@ use lib.ListN.{length}
 use Rattle.limits.specs.Limits.{maxColumns}
 use Rattle.layout.specs.Records.{Netlist}
 use Rattle.layout.proofs.LittleEndian.{AreBytes}
+use Rattle.width.specs.Netlist.{HeadLimits}
 use Rattle.reading.specs.Read.{Reading, refused, accepted, readNetlist}
 use Rattle.reading.specs.Run.{runAnswer, runOutputs}
-use Rattle.reading.specs.Exact.{HeadLimits}
+use Rattle.reading.specs.Exact.{readLimits}
 use Rattle.layout.proofs.FirstRecords.{length-first}
 use Rattle.reading.proofs.ReadAccepts.{reads-netlist}
 use Rattle.checker.proofs.BoardLaws.{samples-differ}
@@ -28,14 +29,14 @@ module _ (b : List ℕ) (outputs xs ys : List ℤ) where
   unfolding runAnswer runOutputs
   alike-refused r place e = (rw (e, runAnswer), rw (e, runOutputs))
 
-  -- no samples, and more than 8
+  -- no samples, and more than any netlist takes
   pub none-or-many : AreBytes b → length xs ≡ 0 → maxColumns < length ys → Alike b outputs xs ys
   none-or-many all x y = go (readNetlist b) refl
     where
       go : (z : Reading Netlist) → readNetlist b ≡ z → Alike b outputs xs ys
       go (refused r place) e = alike-refused r place e
       go (accepted net) e =
-          let limits : HeadLimits (net .head) = reads-netlist b all net .0 e .netlist .head in
+          let limits : HeadLimits readLimits (net .head) = reads-netlist b all net .0 e .netlist .head in
           let none = samples-differ b xs outputs net e (λ n. omega arith) in
           let many = samples-differ b ys outputs net e (λ n. omega arith) in
           (sym (none .0) ∙ many .0, sym (none .1) ∙ many .1)
