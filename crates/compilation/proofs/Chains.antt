@@ -10,13 +10,13 @@ use Rattle.term.specs.declared.Term.{Term}
 use Rattle.layout.specs.declared.Output.{Output}
 use Rattle.elimination.specs.Rows.{Row}
 use Rattle.elimination.specs.Elimination.{Eliminated}
-use Rattle.compilation.specs.Chains.{signOf, chainFrom, chain, chains, rowOutput, rowOutputs}
+use Rattle.compilation.specs.Chains.{signField, chainFrom, chain, chains, rowOutput, rowOutputs}
 use Rattle.compilation.specs.Compile.{outputsOf}
 use Rattle.compilation.specs.Sums.{joinedTerm, Summed, nothing, last, join, SummedRows, end, first-row}
 
 -- the output of a sum
 abbrev sumOutput : Bool → ℕ → Output
-sumOutput turned symbol = record { sign = signOf turned; symbol = symbol; shift = 0; width = 0 }
+sumOutput turned symbol = record { sign = signField turned; symbol = symbol; shift = 0; width = 0 }
 
 chain-from-summed : (first : Term) (next : ℕ) (t : Term) (r : Row)
     → Summed next (first ∷ t ∷ r) (chainFrom (first .symbol) (first .exponent) (first .negative) next (t ∷ r)) (sumOutput (first .negative) (next + length r))

@@ -1,26 +1,31 @@
 -- Document 01, "Netlist and board machine": what is proved of any sequence of steps, said of the netlist of a matrix within the limits, and
 -- of compile's netlist, bytes and answer.
 -- Assumes nothing.
-use Prim.Native.Nat.{ℕ, suc, _+_, _*_, _≤_, _<_}
+use Prim.Native.Nat.{ℕ, suc, _+_, _≤_, _<_}
 use mathlib.Core.Path.{_≡_, refl, ap, _∙_}
 use mathlib.Core.List.{List, [], _∷_, _++_, map}
 use native.Mathlib.Omega.{arith}
 use lib.IntN.{ℤ}
 use lib.ListN.{length, drop}
 use borrow.Author.Tests.{lt-ltb, le-ltb}
+use Rattle.limits.specs.Limits.{positions, sampleWidth, maxOperations, columnBits}
+use Rattle.limits.proofs.Numbers.{columns-in-bits}
 use Rattle.layout.specs.declared.Operation.{Operation}
 use Rattle.layout.specs.declared.Output.{Output}
 use Rattle.layout.specs.Matrix.{matrixRefusal, matrix, rows, columns}
+use Rattle.layout.specs.Records.{headLength}
+use Rattle.layout.specs.Places.{netlistLength, enoughBytes}
 use Rattle.layout.proofs.LittleEndian.{AreBytes}
 use Rattle.width.specs.Machine.{machine, outputValue, times, depth}
+use Rattle.width.specs.Netlist.{IsNetlist}
 use Rattle.width.proofs.DepthLaws.{depth-at-most}
 use Rattle.elimination.specs.Rows.{Row, matrixRows, plainCount}
 use Rattle.elimination.specs.Elimination.{Eliminated, smallestFirst, matrixElimination}
 use Rattle.elimination.proofs.Order.{Columns, matrix-well-formed}
 use Rattle.elimination.proofs.Counts.{plain-within, steps-twice}
 use Rattle.elimination.proofs.Elimination.{steps-of}
-use Rattle.compilation.specs.Compile.{positions, sampleWidth, operationsOf, outputsOf, outputWithWidth, netlistOf, compileRefused, eliminationOf, compiledNetlist, compiledBytes, compileAccepted, compileAnswer, compileBuffer}
-use Rattle.compilation.specs.Compiled.{CompiledNetlist, AcceptedAnswer}
+use Rattle.compilation.specs.Compile.{operationsOf, outputsOf, outputWithWidth, netlistOf, compileRefused, eliminationOf, compiledNetlist, compiledBytes, compileAccepted, compileAnswer, compileBuffer}
+use Rattle.compilation.specs.Compiled.{compiledLimits, AcceptedAnswer}
 use Rattle.compilation.specs.Limits.{WithinLimits}
 use Rattle.compilation.proofs.Limits.{rows-columns, accepted-within}
 use Rattle.compilation.proofs.Counts.{Stepped, operations-count, operations-fewer, netlist-length}
@@ -53,41 +58,42 @@ module _ (p s m n : ℕ) (coefficients : List (List ℤ)) (e : Eliminated) (some
       ∙ outputs-with-widths s n os (machine xs os) (outputsOf n e)
       ∙ machine-times p n coefficients e some (within .coefficients) steps xs l
 
-  pub netlist-compiled : (most : ℕ) → 1 ≤ s → plainCount (matrixRows p coefficients) ≤ most → CompiledNetlist s p (p + s + 3) most (netlistOf s m n e)
+  pub netlist-compiled : (most : ℕ) → 1 ≤ s → plainCount (matrixRows p coefficients) ≤ most
+      → IsNetlist (record { sample = s; positions = p; widest = p + s + columnBits; most = most }) (netlistOf s m n e)
   netlist-compiled most bits plain =
       let limited : Columns n coefficients = rows-columns p n coefficients (within .coefficients) in
-      compiled-netlist s p (p + s + 3) n (matrixRows p coefficients) e some (matrix-well-formed p n coefficients limited) steps
-      (narrow p n coefficients e some limited steps s 3 bits (within .columns-most))
-      m most (within .rows-least) (within .rows-most) (within .columns-least) (within .columns-most)
-      (length-matrix-rows p coefficients ∙ within .one-per-row) plain
+      compiled-netlist (record { sample = s; positions = p; widest = p + s + columnBits; most = most }) n (matrixRows p coefficients) e some
+      (matrix-well-formed p n coefficients limited) steps
+      (narrow p n coefficients e some limited steps s columnBits bits (omega (arith, within .limits .columns-most, columns-in-bits)))
+      m (within .limits) (length-matrix-rows p coefficients ∙ within .one-per-row) plain
 
 -- ---- a matrix record that compile does not refuse
 
 module _ (bytes : List ℕ) (all : AreBytes bytes) (accepted : matrixRefusal bytes ≡ 0) where
-  pub limits : WithinLimits 16 (rows bytes) (columns bytes) (matrix bytes)
+  pub limits : WithinLimits positions (rows bytes) (columns bytes) (matrix bytes)
   limits = accepted-within bytes all accepted
 
   pub steps : Stepped (columns bytes) (matrixRows positions (matrix bytes)) (eliminationOf bytes)
   unfolding matrixElimination
   steps = steps-of smallestFirst positions (columns bytes) (matrix bytes)
 
-  pub plain-most : plainCount (matrixRows positions (matrix bytes)) ≤ 504
-  plain-most = plain-within (columns bytes) (matrix bytes) (rows-columns 16 (columns bytes) (matrix bytes) (limits .coefficients)) (limits .columns-most)
-      (omega (arith, limits .one-per-row, limits .rows-most))
+  pub plain-most : plainCount (matrixRows positions (matrix bytes)) ≤ maxOperations
+  plain-most = plain-within (columns bytes) (matrix bytes) (rows-columns positions (columns bytes) (matrix bytes) (limits .coefficients)) (limits .limits .columns-most)
+      (omega (arith, limits .one-per-row, limits .limits .rows-most))
 
   -- for every vector of samples the board machine's outputs are row times vector
   pub compiled-times : (xs : List ℤ) → length xs ≡ columns bytes
       → map (outputValue (machine xs (compiledNetlist bytes .operations))) (compiledNetlist bytes .outputs) ≡ map (λ row. times row xs) (matrix bytes)
   compiled-times = netlist-times positions sampleWidth (rows bytes) (columns bytes) (matrix bytes) (eliminationOf bytes) (omega arith) limits steps
 
-  -- shifts at most 15, widths right and at most 35, at most 504 operations, operands earlier, totals right
-  pub compiled-is : CompiledNetlist 16 16 35 504 (compiledNetlist bytes)
-  compiled-is = netlist-compiled positions sampleWidth (rows bytes) (columns bytes) (matrix bytes) (eliminationOf bytes) (omega arith) limits steps 504 (omega arith) plain-most
+  -- shifts, widths and the number of operations within the limits, operands earlier, widths and totals right
+  pub compiled-is : IsNetlist compiledLimits (compiledNetlist bytes)
+  compiled-is = netlist-compiled positions sampleWidth (rows bytes) (columns bytes) (matrix bytes) (eliminationOf bytes) (omega arith) limits steps maxOperations (omega arith) plain-most
 
   compiled-rows : length (matrixRows positions (matrix bytes)) ≡ rows bytes
   compiled-rows = length-matrix-rows positions (matrix bytes) ∙ limits .one-per-row
 
-  pub compiled-answer : AcceptedAnswer (rows bytes) 504 (compileAccepted bytes)
+  pub compiled-answer : AcceptedAnswer (rows bytes) maxOperations (compileAccepted bytes)
   unfolding netlistOf
   compiled-answer =
       let n : ℕ = columns bytes in
@@ -100,15 +106,15 @@ module _ (bytes : List ℕ) (all : AreBytes bytes) (accepted : matrixRefusal byt
         replacements = steps-twice steps;
         fewer = operations-fewer n first e steps;
         plain = plain-most;
-        written = netlist-length sampleWidth (rows bytes) n first e steps ∙ ap (λ (m : ℕ). 8 + 12 * length (operationsOf n e) + 9 * m + 8) compiled-rows;
+        written = netlist-length sampleWidth (rows bytes) n first e steps ∙ ap (λ (m : ℕ). netlistLength headLength (length (operationsOf n e)) m) compiled-rows;
         depth = depth-at-most n (operationsOf n e);
       }
 
-  pub compiled-operations : compileAccepted bytes .operations ≤ 504
+  pub compiled-operations : compileAccepted bytes .operations ≤ maxOperations
   compiled-operations = omega (arith, compiled-answer .fewer, compiled-answer .plain)
 
-  pub compiled-length : length (compiledBytes bytes) ≤ 6136
-  compiled-length = omega (arith, compiled-answer .written, compiled-operations, limits .rows-most)
+  pub compiled-length : length (compiledBytes bytes) ≤ enoughBytes
+  compiled-length = omega (arith, compiled-answer .written, compiled-operations, limits .limits .rows-most)
 
 -- ---- the answer and the buffer, case by case
 
@@ -138,6 +144,6 @@ module _ (bytes : List ℕ) where
   unfolding compileBuffer
   buffer-accepted buffer e h = rw (e, le-ltb (length buffer) (length (compiledBytes bytes)) h, compileBuffer)
 
--- 6,136 bytes always suffice
-pub enough-room : (bytes : List ℕ) → AreBytes bytes → (room : ℕ) → matrixRefusal bytes ≡ 0 → 6136 ≤ room → compileAnswer bytes room ≡ compileAccepted bytes
+-- "6,136 bytes always suffice."
+pub enough-room : (bytes : List ℕ) → AreBytes bytes → (room : ℕ) → matrixRefusal bytes ≡ 0 → enoughBytes ≤ room → compileAnswer bytes room ≡ compileAccepted bytes
 enough-room bytes all room e h = answer-accepted bytes room e (omega (arith, compiled-length bytes all e))

@@ -1,12 +1,13 @@
 -- Document 01, "Netlist and board machine": how many operations, outputs and bytes a netlist has, after any sequence of steps.
 -- Assumes nothing.
-use Prim.Native.Nat.{ℕ, suc, _+_, _*_, _≤_}
+use Prim.Native.Nat.{ℕ, suc, _+_, _≤_}
 use mathlib.Core.Path.{_≡_, refl, ap, _∙_}
 use mathlib.Core.List.{List, [], _∷_, map}
 use native.Mathlib.Omega.{arith}
 use lib.ListN.{length, length-append, length-map}
 use Rattle.layout.specs.declared.Operation.{Operation}
-use Rattle.layout.specs.Records.{netlistBytes}
+use Rattle.layout.specs.Records.{headLength, netlistBytes}
+use Rattle.layout.specs.Places.{netlistLength}
 use Rattle.layout.proofs.Lengths.{length-netlist}
 use Rattle.elimination.specs.declared.Divisor.{Divisor}
 use Rattle.elimination.specs.Rows.{Row, plainCount}
@@ -70,6 +71,6 @@ unfolding netlistOf
 netlist-outputs s m n rows e h = length-map (outputsOf n e) (outputWithWidth s n (operationsOf n e)) ∙ length-outputs n rows e h
 
 pub netlist-length : (s m n : ℕ) (rows : List Row) (e : Eliminated) → Stepped n rows e
-    → length (netlistBytes (netlistOf s m n e)) ≡ 8 + 12 * length (operationsOf n e) + 9 * length rows + 8
+    → length (netlistBytes (netlistOf s m n e)) ≡ netlistLength headLength (length (operationsOf n e)) (length rows)
 netlist-length s m n rows e h =
     omega (arith, length-netlist (netlistOf s m n e), netlist-operations s m n e, netlist-outputs s m n rows e h)

@@ -7,12 +7,13 @@ use native.Mathlib.Omega.{arith}
 use native.Mathlib.Nat.{pow-succ'}
 use lib.IntN.{ℤ, natAbs}
 use lib.ListN.{length}
-use Rattle.layout.specs.Matrix.{matrixRefusal, matrix, rows, columns, coefficientsFrom, rowsFrom}
+use Rattle.limits.specs.Limits.{positions}
+use Rattle.layout.specs.Matrix.{matrixRefusal, matrix, rows, columns, coefficientAt, coefficientsFrom, rowsFrom}
 use Rattle.layout.proofs.LittleEndian.{AreBytes}
 use Rattle.layout.proofs.MatrixRefusal.{AcceptedMatrix, accepted-matrix}
 use Rattle.layout.proofs.MatrixRows.{coefficient-range, matrix-length}
 use Rattle.width.specs.Width.{Within}
-use Rattle.width.proofs.WidthLaws.{within-size}
+use Rattle.width.proofs.WidthLaws.{within-size, within-wider}
 use Rattle.elimination.proofs.Order.{Columns}
 use Rattle.elimination.proofs.Matrix.{Enough}
 use Rattle.compilation.specs.Limits.{CoefficientsWithin, RowsWithin, WithinLimits}
@@ -33,31 +34,29 @@ pub coefficients-enough : (positions : ℕ) (row : List ℤ) → 1 ≤ positions
 coefficients-enough positions [] some h = tt
 coefficients-enough positions (z ∷ row) some h = (enough-positions positions z some (h .0), coefficients-enough positions row some (h .1))
 
--- ---- an accepted record's matrix
+-- ---- an accepted record's matrix, whose coefficients of 2 bytes lie within the digit positions
 
 module _ (b : List ℕ) (all : AreBytes b) where
-  coefficients-within : (index k : ℕ) → (length (coefficientsFrom b index k) ≡ k) × CoefficientsWithin 16 (coefficientsFrom b index k)
+  coefficients-within : (index k : ℕ) → (length (coefficientsFrom b index k) ≡ k) × CoefficientsWithin positions (coefficientsFrom b index k)
   unfolding coefficientsFrom
   coefficients-within index zero = (refl, tt)
   coefficients-within index (suc k) =
       let here = coefficient-range b all index in
+      let two-bytes : Within 16 (coefficientAt b index) = record { low = here .0; high = here .1 } in
       let others = coefficients-within (index + 1) k in
-      (ap suc (others .0), (record { low = here .0; high = here .1 }, others .1))
+      (ap suc (others .0), (within-wider positions (omega arith) two-bytes, others .1))
 
-  rows-within : (n index k : ℕ) → RowsWithin 16 n (rowsFrom b n index k)
+  rows-within : (n index k : ℕ) → RowsWithin positions n (rowsFrom b n index k)
   unfolding rowsFrom
   rows-within n index zero = tt
   rows-within n index (suc k) = (coefficients-within index n, rows-within n (index + n) k)
 
-  pub accepted-within : matrixRefusal b ≡ 0 → WithinLimits 16 (rows b) (columns b) (matrix b)
+  pub accepted-within : matrixRefusal b ≡ 0 → WithinLimits positions (rows b) (columns b) (matrix b)
   unfolding matrix
   accepted-within h =
       let a : AcceptedMatrix b = accepted-matrix b h in
       record {
-        rows-least = a .rows-least;
-        rows-most = a .rows-most;
-        columns-least = a .columns-least;
-        columns-most = a .columns-most;
+        limits = a .limits;
         one-per-row = matrix-length b;
         coefficients = rows-within (columns b) 0 (rows b);
       }

@@ -12,12 +12,12 @@ use Rattle.layout.specs.Records.{headPayload, operationPayload, outputPayload, 
 use Rattle.width.specs.Machine.{entryForm, outputForm, depth}
 use Rattle.width.specs.Width.{width}
 use Rattle.width.proofs.Marked.{marked-widths}
-use Rattle.compilation.specs.Chains.{signOf, chainFrom, chain, chains, rowOutput, rowOutputs}
+use Rattle.compilation.specs.Chains.{signField, chainFrom, chain, chains, rowOutput, rowOutputs}
 use Rattle.compilation.specs.Compile.{operationsOf, outputsOf, withWidths, netlistOf, compileAnswer}
 use Rattle.compilation.specs.Marked.{MarkedBanks}
 
 pub marked-banks : MarkedBanks
-unfolding xor flatMap matrixRows plainCount matrixElimination matrixRefusal matrix rowsFrom coefficientsFrom coefficientAt signedWord headPayload operationPayload outputPayload totalsPayload netlistBytes entryForm outputForm depth width signOf chainFrom chain chains rowOutput rowOutputs operationsOf outputsOf withWidths netlistOf compileAnswer
+unfolding xor flatMap matrixRows plainCount matrixElimination matrixRefusal matrix rowsFrom coefficientsFrom coefficientAt signedWord headPayload operationPayload outputPayload totalsPayload netlistBytes entryForm outputForm depth width signField chainFrom chain chains rowOutput rowOutputs operationsOf outputsOf withWidths netlistOf compileAnswer
 marked-banks = record {
   digits = marked-digits;
   elimination = marked-elimination;

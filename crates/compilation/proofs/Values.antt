@@ -21,7 +21,7 @@ use Rattle.elimination.specs.Elimination.{Eliminated}
 use Rattle.elimination.proofs.Order.{matrix-well-formed}
 use Rattle.elimination.proofs.Value.{Values, steps-value}
 use Rattle.elimination.proofs.Matrix.{coefficientsTimes, row-value}
-use Rattle.compilation.specs.Chains.{signOf, divisorOperation, chains}
+use Rattle.compilation.specs.Chains.{signField, divisorOperation, chains}
 use Rattle.compilation.specs.Compile.{operationsOf, outputsOf}
 use Rattle.compilation.specs.Limits.{RowsWithin}
 use Rattle.compilation.specs.Sums.{joinedTerm, Summed, nothing, last, join, SummedRows, end, first-row}
@@ -37,13 +37,13 @@ outputOf v o = withSign (o .sign) (shifted (v (o .symbol)) (o .shift))
 
 -- ---- signs and shifts, as the machine and as a row have them
 
-joined-is : (b : Bool) (x y : ℤ) (s : ℕ) → joined (signOf b) x (shifted y s) ≡ x +ℤ signed b (pos (2 ^ s) *ℤ y)
-unfolding signOf
+joined-is : (b : Bool) (x y : ℤ) (s : ℕ) → joined (signField b) x (shifted y s) ≡ x +ℤ signed b (pos (2 ^ s) *ℤ y)
+unfolding signField
 joined-is false x y s = ap (λ z. x +ℤ z) (*ℤ-comm y (pos (2 ^ s)))
 joined-is true x y s = ap (λ z. x +ℤ negℤ z) (*ℤ-comm y (pos (2 ^ s)))
 
-signed-is : (b : Bool) (y : ℤ) (s : ℕ) → withSign (signOf b) (shifted y s) ≡ signed b (pos (2 ^ s) *ℤ y)
-unfolding signOf
+signed-is : (b : Bool) (y : ℤ) (s : ℕ) → withSign (signField b) (shifted y s) ≡ signed b (pos (2 ^ s) *ℤ y)
+unfolding signField
 signed-is false y s = *ℤ-comm y (pos (2 ^ s))
 signed-is true y s = ap negℤ (*ℤ-comm y (pos (2 ^ s)))
 
@@ -89,7 +89,7 @@ module _ (v : ℕ → ℤ) where
   -- ---- sums
 
   -- a join has the value of its two terms
-  join-value : (next : ℕ) (t u : Term) → v next ≡ joined (signOf (xor (t .negative) (u .negative))) (shifted (v (t .symbol)) (t .exponent)) (shifted (v (u .symbol)) (u .exponent))
+  join-value : (next : ℕ) (t u : Term) → v next ≡ joined (signField (xor (t .negative) (u .negative))) (shifted (v (t .symbol)) (t .exponent)) (shifted (v (u .symbol)) (u .exponent))
       → termValue v (joinedTerm next t) ≡ termValue v t +ℤ termValue v u
   unfolding termValue
   join-value next t u e =

@@ -30,7 +30,7 @@ use Rattle.elimination.proofs.Tests.{by-bool}
 use Rattle.elimination.proofs.Order.{Columns, DivisorsWithin, matrix-well-formed, steps-well-formed, steps-divisors-within}
 use Rattle.elimination.proofs.Weights.{WeightsWithin, steps-weights-within, steps-rows-within}
 use Rattle.elimination.proofs.Matrix.{matrix-weights, row-within, values-within}
-use Rattle.compilation.specs.Chains.{signOf}
+use Rattle.compilation.specs.Chains.{signField}
 use Rattle.compilation.specs.Compile.{operationsOf, outputsOf}
 use Rattle.compilation.specs.Sums.{joinedTerm, Summed, nothing, last, join, SummedRows, end, first-row}
 use Rattle.compilation.proofs.Sums.{EachTerm, each-member, weight-permuted, summed-rows-length}
@@ -108,12 +108,12 @@ module _ (v : ℕ → ℤ) where
   unfolding termWeight
   shifted-size t = omega (arith, abs-* (v (t .symbol)) (pos (2 ^ t .exponent)))
 
-  joined-small : (b : Bool) (x y : ℤ) → natAbs (joined (signOf b) x y) ≤ natAbs x + natAbs y
-  unfolding signOf
+  joined-small : (b : Bool) (x y : ℤ) → natAbs (joined (signField b) x y) ≤ natAbs x + natAbs y
+  unfolding signField
   joined-small false x y = abs-+ x y
   joined-small true x y = omega (arith, abs-+ x (negℤ y), abs-neg y)
 
-  join-small : (next : ℕ) (t u : Term) → v next ≡ joined (signOf (xor (t .negative) (u .negative))) (shifted (v (t .symbol)) (t .exponent)) (shifted (v (u .symbol)) (u .exponent))
+  join-small : (next : ℕ) (t u : Term) → v next ≡ joined (signField (xor (t .negative) (u .negative))) (shifted (v (t .symbol)) (t .exponent)) (shifted (v (u .symbol)) (u .exponent))
       → termWeight size (joinedTerm next t) ≤ termWeight size t + termWeight size u
   unfolding termWeight
   join-small next t u e =
@@ -163,12 +163,6 @@ module _ (v : ℕ → ℤ) where
 -- the largest weight of a column: 43,690 for 16 positions
 abbrev pub weightBound : ℕ → ℕ
 weightBound positions = 2 ^ suc positions / 3
-
-pub bound-of-16 : weightBound 16 ≡ 43690
-bound-of-16 = refl
-
-pub bound-of-24 : weightBound 24 ≡ 11184810
-bound-of-24 = refl
 
 module _ (positions n : ℕ) (m : List (List ℤ)) (e : Eliminated) (some : 1 ≤ positions) (c : Columns n m) (steps : Stepped n (matrixRows positions m) e)
     (column : ℕ) (inside : column < n) where

@@ -11,20 +11,20 @@ use Rattle.layout.specs.declared.Operation.{Operation}
 use Rattle.layout.specs.declared.Output.{Output}
 
 -- 0 add or plus, 1 subtract or minus
-unfoldable pub signOf : Bool → ℕ
-signOf false = 0
-signOf true = 1
+unfoldable pub signField : Bool → ℕ
+signField false = 0
+signField true = 1
 
 -- one per divisor: (a shifted by ea) plus or minus (b shifted by eb)
 abbrev pub divisorOperation : Divisor → Operation
-divisorOperation d = record { sign = signOf (d .minus); a = d .a; sa = d .ea; b = d .b; sb = d .eb; width = 0 }
+divisorOperation d = record { sign = signField (d .minus); a = d .a; sa = d .ea; b = d .b; sb = d .eb; width = 0 }
 
 -- the rest of a chain: the sum so far (its symbol and shift) with each term in order; signs are turned if the first term is negative;
 -- `next` is the symbol of the next operation, and each sum goes on with shift 0
 unfoldable pub chainFrom : ℕ → ℕ → Bool → ℕ → Row → List Operation
 chainFrom symbol shift turned next [] = []
 chainFrom symbol shift turned next (t ∷ r) =
-    record { sign = signOf (xor turned (t .negative)); a = symbol; sa = shift; b = t .symbol; sb = t .exponent; width = 0 }
+    record { sign = signField (xor turned (t .negative)); a = symbol; sa = shift; b = t .symbol; sb = t .exponent; width = 0 }
     ∷ chainFrom next 0 turned (suc next) r
 
 -- a row of two terms or more is summed in term order; a row of one term, or none, has no operation
@@ -36,8 +36,8 @@ chain next (t ∷ r) = chainFrom (t .symbol) (t .exponent) (t .negative) next r
 -- no terms: zero; one term: the term; else the chain's last sum, minus if the first term is negative
 unfoldable pub rowOutput : ℕ → Row → Output
 rowOutput next [] = record { sign = 2; symbol = 0; shift = 0; width = 0 }
-rowOutput next (t ∷ []) = record { sign = signOf (t .negative); symbol = t .symbol; shift = t .exponent; width = 0 }
-rowOutput next (t ∷ u ∷ r) = record { sign = signOf (t .negative); symbol = next + length r; shift = 0; width = 0 }
+rowOutput next (t ∷ []) = record { sign = signField (t .negative); symbol = t .symbol; shift = t .exponent; width = 0 }
+rowOutput next (t ∷ u ∷ r) = record { sign = signField (t .negative); symbol = next + length r; shift = 0; width = 0 }
 
 -- per remaining row its chain
 unfoldable pub chains : ℕ → List Row → List Operation

@@ -5,6 +5,7 @@ use mathlib.Core.Bool.{true, false}
 use mathlib.Core.List.{List, [], _∷_, _++_, map}
 use lib.Dec.{ltb}
 use lib.ListN.{length, drop}
+use Rattle.limits.specs.Limits.{positions, sampleWidth}
 use Rattle.elimination.specs.Rows.{matrixRows, plainCount}
 use Rattle.elimination.specs.Elimination.{Eliminated, matrixElimination}
 use Rattle.layout.specs.declared.Operation.{Operation}
@@ -15,13 +16,6 @@ use Rattle.width.specs.Machine.{entryForm, outputForm, depth}
 use Rattle.width.specs.Width.{width}
 use Rattle.compilation.specs.Chains.{divisorOperation, chains, rowOutputs}
 use Rattle.compilation.specs.declared.CompileAnswer.{CompileAnswer}
-
--- "Positions run 0 to 15"; "over all samples from −32,768 to 32,767"
-abbrev pub positions : ℕ
-positions = 16
-
-abbrev pub sampleWidth : ℕ
-sampleWidth = 16
 
 -- ---- the netlist of a matrix with n columns
 

@@ -1,10 +1,11 @@
 -- Document 01, "Matrix record": a matrix within the limits, over any number of bits of a coefficient (16 in document 01).
 -- Assumes nothing.
-use Prim.Native.Nat.{ℕ, _≤_}
+use Prim.Native.Nat.{ℕ}
 use mathlib.Core.Path.{_≡_}
 use mathlib.Core.List.{List, [], _∷_}
 use lib.IntN.{ℤ}
 use lib.ListN.{length}
+use Rattle.limits.specs.Size.{SizeLimits}
 use Rattle.width.specs.Width.{Within}
 
 -- coefficients of so many bits: with 16, from −32,768 to 32,767
@@ -17,11 +18,8 @@ abbrev pub RowsWithin : ℕ → ℕ → List (List ℤ) → Type 0
 RowsWithin bits n [] = Unit {0}
 RowsWithin bits n (row ∷ rows) = ((length row ≡ n) × CoefficientsWithin bits row) × RowsWithin bits n rows
 
--- m and n are each 1 to 8, and there are m rows of n coefficients
+-- m and n are within the limits, and there are m rows of n coefficients
 pub record WithinLimits (bits m n : ℕ) (matrix : List (List ℤ)) : Type 0 where
-  pub rows-least : 1 ≤ m
-  pub rows-most : m ≤ 8
-  pub columns-least : 1 ≤ n
-  pub columns-most : n ≤ 8
+  pub limits : SizeLimits m n
   pub one-per-row : length matrix ≡ m
   pub coefficients : RowsWithin bits n matrix

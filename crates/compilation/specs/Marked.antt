@@ -5,13 +5,14 @@ use mathlib.Core.Path.{_≡_}
 use mathlib.Core.List.{List, [], _∷_}
 use lib.IntN.{ℤ, pos, negsuc}
 use lib.ListN.{replicate}
+use Rattle.limits.specs.Limits.{positions, sampleWidth}
 use Rattle.digits.specs.Marked.{MarkedDigits}
 use Rattle.elimination.specs.Rows.{matrixRows, plainCount}
 use Rattle.elimination.specs.Elimination.{matrixElimination}
 use Rattle.elimination.specs.Marked.{MarkedElimination, single, fourByFour}
 use Rattle.layout.specs.Records.{Netlist}
 use Rattle.width.specs.Marked.{MarkedWidths, sumOfTwo, negatedSample, chainOfEight, negatedChain}
-use Rattle.compilation.specs.Compile.{positions, sampleWidth, netlistOf, compiledBytes, compileAnswer}
+use Rattle.compilation.specs.Compile.{netlistOf, compiledBytes, compileAnswer}
 use Rattle.compilation.specs.declared.CompileAnswer.{CompileAnswer}
 
 -- the netlist of a matrix of m rows and n columns
@@ -19,12 +20,12 @@ abbrev pub netlistFor : ℕ → ℕ → List (List ℤ) → Netlist
 netlistFor m n matrix = netlistOf sampleWidth m n (matrixElimination positions n matrix)
 
 -- 0A 00 01 00 01 02 03 00 FD FF (row 3, −3)
-abbrev pub threeMinusThree : List ℕ
-threeMinusThree = 0x0A ∷ 0x00 ∷ 0x01 ∷ 0x00 ∷ 0x01 ∷ 0x02 ∷ 0x03 ∷ 0x00 ∷ 0xFD ∷ 0xFF ∷ []
+abbrev pub threeMinusThreeRecord : List ℕ
+threeMinusThreeRecord = 0x0A ∷ 0x00 ∷ 0x01 ∷ 0x00 ∷ 0x01 ∷ 0x02 ∷ 0x03 ∷ 0x00 ∷ 0xFD ∷ 0xFF ∷ []
 
 -- a head: 1 output, 2 inputs, 2 operations; 2 = 0<<0 - 1<<0 width 17; 3 = 2<<0 - 2<<2 width 19; row 0 = -3<<0 width 19; totals
-abbrev pub threeMinusThreeBytes : List ℕ
-threeMinusThreeBytes =
+abbrev pub threeMinusThreeNetlist : List ℕ
+threeMinusThreeNetlist =
     0x08 ∷ 0x00 ∷ 0x02 ∷ 0x00 ∷ 0x01 ∷ 0x02 ∷ 0x02 ∷ 0x00
     ∷ 0x0C ∷ 0x00 ∷ 0x03 ∷ 0x00 ∷ 0x01 ∷ 0x00 ∷ 0x00 ∷ 0x00 ∷ 0x01 ∷ 0x00 ∷ 0x00 ∷ 17
     ∷ 0x0C ∷ 0x00 ∷ 0x03 ∷ 0x00 ∷ 0x01 ∷ 0x02 ∷ 0x00 ∷ 0x00 ∷ 0x02 ∷ 0x00 ∷ 0x02 ∷ 19
@@ -59,5 +60,5 @@ pub record MarkedBanks : Type 0 where
   pub compiled-eight : netlistFor 1 8 (replicate 8 (negsuc 32767) ∷ []) .operations ≡ chainOfEight
   pub output-eight : netlistFor 1 8 (replicate 8 (negsuc 32767) ∷ []) .outputs ≡ negatedChain ∷ []
   -- row 3, −3
-  pub bytes-three : compiledBytes threeMinusThree ≡ threeMinusThreeBytes
-  pub answer-three : compileAnswer threeMinusThree 49 ≡ threeMinusThreeAnswer
+  pub bytes-three : compiledBytes threeMinusThreeRecord ≡ threeMinusThreeNetlist
+  pub answer-three : compileAnswer threeMinusThreeRecord 49 ≡ threeMinusThreeAnswer

@@ -10,7 +10,7 @@ use Rattle.term.specs.declared.Term.{Term}
 use Rattle.layout.specs.declared.Operation.{Operation}
 use Rattle.layout.specs.declared.Output.{Output}
 use Rattle.elimination.specs.Rows.{Row}
-use Rattle.compilation.specs.Chains.{signOf}
+use Rattle.compilation.specs.Chains.{signField}
 
 abbrev pub joinedTerm : ℕ → Term → Term
 joinedTerm symbol t = record { symbol = symbol; exponent = 0; negative = t .negative }
@@ -18,10 +18,10 @@ joinedTerm symbol t = record { symbol = symbol; exponent = 0; negative = t .nega
 -- the second is subtracted where the signs differ
 abbrev pub joinOperation : Term → Term → Operation
 joinOperation t u =
-    record { sign = signOf (xor (t .negative) (u .negative)); a = t .symbol; sa = t .exponent; b = u .symbol; sb = u .exponent; width = 0 }
+    record { sign = signField (xor (t .negative) (u .negative)); a = t .symbol; sa = t .exponent; b = u .symbol; sb = u .exponent; width = 0 }
 
 abbrev pub termOutput : Term → Output
-termOutput t = record { sign = signOf (t .negative); symbol = t .symbol; shift = t .exponent; width = 0 }
+termOutput t = record { sign = signField (t .negative); symbol = t .symbol; shift = t .exponent; width = 0 }
 
 abbrev pub zeroOutput : Output
 zeroOutput = record { sign = 2; symbol = 0; shift = 0; width = 0 }

@@ -12,7 +12,7 @@ use Rattle.layout.specs.declared.Output.{Output}
 use Rattle.term.specs.declared.Term.{Term}
 use Rattle.elimination.specs.Rows.{Row, plainCount}
 use Rattle.eliminate.specs.State.{noTerm}
-use Rattle.compilation.specs.Chains.{signOf, chainFrom, chain, chains, rowOutput, rowOutputs}
+use Rattle.compilation.specs.Chains.{signField, chainFrom, chain, chains, rowOutput, rowOutputs}
 use Rattle.compilation.proofs.Sums.{summed-length, summed-rows-outputs}
 use Rattle.compilation.proofs.Chains.{chain-summed, chains-summed}
 
@@ -35,12 +35,12 @@ module _ {A B : Type 0} (f : A → B) (ds : List A) (out : List B) (i : ℕ) whe
 
 -- ---- signs
 
-pub sign-turned : (turned negative : Bool) → turned ≡ true → signOf (not negative) ≡ signOf (xor turned negative)
+pub sign-turned : (turned negative : Bool) → turned ≡ true → signField (not negative) ≡ signField (xor turned negative)
 unfolding xor
 sign-turned turned true e = rw e
 sign-turned turned false e = rw e
 
-pub sign-kept : (turned negative : Bool) → turned ≡ false → signOf negative ≡ signOf (xor turned negative)
+pub sign-kept : (turned negative : Bool) → turned ≡ false → signField negative ≡ signField (xor turned negative)
 unfolding xor
 sign-kept turned true e = rw e
 sign-kept turned false e = rw e
@@ -49,7 +49,7 @@ sign-kept turned false e = rw e
 
 -- the sum so far with one term
 abbrev pub summed : ℕ → ℕ → Bool → Term → Operation
-summed symbol shift turned t = record { sign = signOf (xor turned (t .negative)); a = symbol; sa = shift; b = t .symbol; sb = t .exponent; width = 0 }
+summed symbol shift turned t = record { sign = signField (xor turned (t .negative)); a = symbol; sa = shift; b = t .symbol; sb = t .exponent; width = 0 }
 
 module _ (turned : Bool) (r : Row) (out : List Operation) (i : ℕ) where
   chain-cons : (symbol shift next : ℕ) (t : Term) (r : Row) → chainFrom symbol shift turned next (t ∷ r) ≡ summed symbol shift turned t ∷ chainFrom next 0 turned (suc next) r
@@ -144,26 +144,26 @@ output-none next [] h = refl
 output-none next (t ∷ r) h = absurd (omega arith)
 
 pub output-one : (next : ℕ) (r : Row) → length r ≡ 1
-    → record { sign = signOf (getD r 0 noTerm .negative); symbol = getD r 0 noTerm .symbol; shift = getD r 0 noTerm .exponent; width = 0 } ≡ rowOutput next r
+    → record { sign = signField (getD r 0 noTerm .negative); symbol = getD r 0 noTerm .symbol; shift = getD r 0 noTerm .exponent; width = 0 } ≡ rowOutput next r
 unfolding rowOutput
 output-one next [] h = absurd (omega arith)
 output-one next (t ∷ []) h = refl
 output-one next (t ∷ u ∷ r) h = absurd (omega arith)
 
-pub output-one-is : (next sign symbol shift : ℕ) (t : Term) (r : Row) → length r ≡ 1 → t ≡ getD r 0 noTerm → sign ≡ signOf (t .negative) → symbol ≡ t .symbol → shift ≡ t .exponent
+pub output-one-is : (next sign symbol shift : ℕ) (t : Term) (r : Row) → length r ≡ 1 → t ≡ getD r 0 noTerm → sign ≡ signField (t .negative) → symbol ≡ t .symbol → shift ≡ t .exponent
     → record { sign = sign; symbol = symbol; shift = shift; width = 0 } ≡ rowOutput next r
 output-one-is next sign symbol shift t r h e a b c = rw (a, b, c, e) (output-one next r h)
 
 pub output-more : (next : ℕ) (r : Row) → 2 ≤ length r
-    → record { sign = signOf (getD r 0 noTerm .negative); symbol = next + (length r - 2); shift = 0; width = 0 } ≡ rowOutput next r
+    → record { sign = signField (getD r 0 noTerm .negative); symbol = next + (length r - 2); shift = 0; width = 0 } ≡ rowOutput next r
 unfolding rowOutput
 output-more next [] h = absurd (omega arith)
 output-more next (t ∷ []) h = absurd (omega arith)
 output-more next (t ∷ u ∷ r) h =
     let last : next + (length (t ∷ u ∷ r) - 2) ≡ next + length r = omega arith in
-    ap (λ (k : ℕ). record { sign = signOf (t .negative); symbol = k; shift = 0; width = 0 }) last
+    ap (λ (k : ℕ). record { sign = signField (t .negative); symbol = k; shift = 0; width = 0 }) last
 
-pub output-more-is : (next sign count : ℕ) (t : Term) (r : Row) → 2 ≤ length r → count ≡ length r → t ≡ getD r 0 noTerm → sign ≡ signOf (t .negative)
+pub output-more-is : (next sign count : ℕ) (t : Term) (r : Row) → 2 ≤ length r → count ≡ length r → t ≡ getD r 0 noTerm → sign ≡ signField (t .negative)
     → record { sign = sign; symbol = next + (count - 2); shift = 0; width = 0 } ≡ rowOutput next r
 output-more-is next sign count t r h k e a = rw (a, k, e) (output-more next r h)
 

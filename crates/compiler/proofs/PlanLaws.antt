@@ -1,20 +1,23 @@
 -- Document 01, "Netlist and board machine": what a matrix record that is not declined gives each part of compile, and compile's answer.
 -- Assumes nothing.
-use Prim.Native.Nat.{ℕ, zero, suc, _+_, _*_, _≤_, _<_}
+use Prim.Native.Nat.{ℕ, zero, suc, _+_, _≤_, _<_}
 use mathlib.Core.Path.{_≡_, refl, sym, ap, ap₂, _∙_, subst}
-use mathlib.Core.List.{List, [], _∷_, _++_, map}
+use mathlib.Core.List.{List, _++_, map}
 use native.Mathlib.Omega.{arith}
 use native.Mathlib.Nat.{zero-add}
-use lib.IntN.{ℤ}
 use lib.ListN.{length, getD, take, drop, length-map}
 use lib.Seq.{length-take-le, split-at}
+use Rattle.limits.specs.Limits.{maxRows, positions, sampleWidth, maxOperations, columnBits, maxCompiledWidth}
+use Rattle.limits.proofs.Numbers.{columns-in-bits}
 use Rattle.layout.specs.declared.Operation.{Operation}
 use Rattle.layout.specs.declared.Output.{Output}
 use Rattle.layout.specs.Matrix.{matrixRefusal, matrix, rows, columns}
-use Rattle.layout.specs.Records.{Netlist, netlistBytes}
+use Rattle.layout.specs.Records.{Netlist, headLength, netlistBytes}
+use Rattle.layout.specs.Places.{netlistLength}
 use Rattle.layout.specs.Written.{written}
 use Rattle.layout.proofs.LittleEndian.{AreBytes}
 use Rattle.width.specs.Machine.{depth}
+use Rattle.width.specs.Netlist.{OperationLimits, OutputOperand}
 use Rattle.elimination.specs.declared.Divisor.{Divisor}
 use Rattle.elimination.specs.Rows.{Row, matrixRows, plainCount}
 use Rattle.elimination.specs.Elimination.{Eliminated, smallestFirst, elimination, matrixElimination}
@@ -24,12 +27,13 @@ use Rattle.eliminate.specs.State.{Ready}
 use Rattle.eliminate.proofs.Ready.{ready-matrix}
 use Rattle.compiler.specs.Lists.{noOperation, noOutput}
 use Rattle.compilation.specs.Chains.{divisorOperation, chains, rowOutputs}
-use Rattle.compilation.specs.Compile.{positions, sampleWidth, operationsOf, outputsOf, netlistOf, compileRefused, eliminationOf, compiledNetlist, compiledBytes, compileAccepted, compileAnswer, compileBuffer}
+use Rattle.compilation.specs.Compile.{operationsOf, outputsOf, netlistOf, compileRefused, eliminationOf, compiledNetlist, compiledBytes, compileAccepted, compileAnswer, compileBuffer}
 use Rattle.compilation.specs.Limits.{WithinLimits}
+use Rattle.compilation.specs.Compiled.{compiledLimits}
 use Rattle.compiler.specs.Tables.{Writable, EarlierOutputs, recordedNetlist}
 use Rattle.compilation.proofs.Limits.{rows-columns}
 use Rattle.compilation.proofs.Counts.{Stepped, length-operations, length-outputs, operations-fewer, netlist-length}
-use Rattle.compilation.proofs.Operands.{OperationInRange, EachOperation, OperationsInRange, operations-in-range, OutputInRange, EachOutput, OutputsInRange, outputs-in-range}
+use Rattle.compilation.proofs.Operands.{EachOperation, OperationsInRange, operations-in-range, EachOutput, OutputsInRange, outputs-in-range}
 use Rattle.compilation.proofs.Netlist.{Narrow, operation-at, output-at}
 use Rattle.compilation.proofs.Narrow.{narrow}
 use Rattle.compilation.proofs.Compiled.{length-matrix-rows, limits, steps, plain-most, answer-refused, buffer-refused}
@@ -55,65 +59,59 @@ module _ (bytes : List ℕ) (all : AreBytes bytes) (accepted : matrixRefusal byt
   abbrev e : Eliminated
   e = eliminationOf bytes
 
-  abbrev within : WithinLimits 16 (rows bytes) (columns bytes) (matrix bytes)
+  abbrev within : WithinLimits positions (rows bytes) (columns bytes) (matrix bytes)
   within = limits bytes all accepted
 
   limited : Columns n (matrix bytes)
-  limited = rows-columns 16 n (matrix bytes) (within .coefficients)
+  limited = rows-columns positions n (matrix bytes) (within .coefficients)
 
   abbrev stepped : Stepped n first e
   stepped = steps bytes all accepted
 
   pub ready : Ready (columns bytes) (matrixRows positions (matrix bytes))
-  ready = ready-matrix n (matrix bytes) limited (within .columns-most) (omega (arith, within .one-per-row, within .rows-most))
+  ready = ready-matrix n (matrix bytes) limited (within .limits .columns-most) (omega (arith, within .one-per-row, within .limits .rows-most))
 
-  pub operations-most : length (operationsOf (columns bytes) (eliminationOf bytes)) ≤ 504
+  pub operations-most : length (operationsOf (columns bytes) (eliminationOf bytes)) ≤ maxOperations
   operations-most = omega (arith, operations-fewer n first e stepped, plain-most bytes all accepted)
 
-  pub operations-sum : length (eliminationOf bytes .divisors) + plainCount (eliminationOf bytes .remainingRows) ≤ 504
+  pub operations-sum : length (eliminationOf bytes .divisors) + plainCount (eliminationOf bytes .remainingRows) ≤ maxOperations
   operations-sum = omega (arith, length-operations n e, operations-most)
 
-  pub replacements-most : eliminationOf bytes .replacements ≤ 504
+  pub replacements-most : eliminationOf bytes .replacements ≤ maxOperations
   replacements-most = omega (arith, steps-plain stepped, plain-most bytes all accepted)
 
   pub outputs-are : length (outputsOf (columns bytes) (eliminationOf bytes)) ≡ rows bytes
   outputs-are = length-outputs n first e stepped ∙ length-matrix-rows positions (matrix bytes) ∙ within .one-per-row
 
-  pub remaining-few : length (eliminationOf bytes .remainingRows) ≤ 8
+  pub remaining-few : length (eliminationOf bytes .remainingRows) ≤ maxRows
   unfolding outputsOf
-  remaining-few = omega (arith, outputs-count (n + length (e .divisors)) (e .remainingRows), outputs-are, within .rows-most)
+  remaining-few = omega (arith, outputs-count (n + length (e .divisors)) (e .remainingRows), outputs-are, within .limits .rows-most)
 
-  in-range : OperationsInRange positions n (operationsOf n e)
-  in-range = operations-in-range positions n first e (omega arith) (matrix-well-formed positions n (matrix bytes) limited) stepped
+  in-range : OperationsInRange compiledLimits n (operationsOf n e)
+  in-range = operations-in-range compiledLimits n first e (omega arith) (matrix-well-formed positions n (matrix bytes) limited) stepped
 
-  narrow-widths : Narrow sampleWidth 35 n e
-  narrow-widths = narrow positions n (matrix bytes) e (omega arith) limited stepped sampleWidth 3 (omega arith) (within .columns-most)
+  narrow-widths : Narrow sampleWidth maxCompiledWidth n e
+  narrow-widths = narrow positions n (matrix bytes) e (omega arith) limited stepped sampleWidth columnBits (omega arith) (omega (arith, within .limits .columns-most, columns-in-bits))
 
-  at : (k : ℕ) → k < length (operationsOf n e) → OperationInRange positions (n + k) (getD (operationsOf n e) k noOperation)
-  at k h = operation-index (OperationInRange positions) n (operationsOf n e) in-range k h
+  at : (k : ℕ) → k < length (operationsOf n e) → OperationLimits compiledLimits (n + k) (getD (operationsOf n e) k noOperation)
+  at k h = operation-index (OperationLimits compiledLimits) n (operationsOf n e) in-range k h
 
-  pub writable : Writable (columns bytes) (operationsOf (columns bytes) (eliminationOf bytes))
+  pub writable : Writable compiledLimits (columns bytes) (operationsOf (columns bytes) (eliminationOf bytes))
   writable = record {
-    inputs = within .columns-most;
+    inputs = within .limits .columns-most;
     few = operations-most;
-    first-earlier = λ k h. at k h .first-earlier;
-    second-earlier = λ k h. at k h .second-earlier;
-    first-shift = λ k h. omega (arith, at k h .first-shift);
-    second-shift = λ k h. omega (arith, at k h .second-shift);
+    operation = at;
     narrow = narrow-widths .entries;
   }
 
-  outputs-within : OutputsInRange positions (n + length (operationsOf n e)) (outputsOf n e)
-  outputs-within = outputs-in-range positions n first e (omega arith) (within .columns-least) (matrix-well-formed positions n (matrix bytes) limited) stepped
+  outputs-within : OutputsInRange compiledLimits (n + length (operationsOf n e)) (outputsOf n e)
+  outputs-within = outputs-in-range compiledLimits n first e (omega arith) (within .limits .columns-least) (matrix-well-formed positions n (matrix bytes) limited) stepped
 
-  output : (i : ℕ) → i < length (outputsOf n e) → OutputInRange positions (n + length (operationsOf n e)) (getD (outputsOf n e) i noOutput)
-  output i h = output-index (OutputInRange positions (n + length (operationsOf n e))) (outputsOf n e) outputs-within i h
-
-  pub earlier-outputs : EarlierOutputs (columns bytes) (operationsOf (columns bytes) (eliminationOf bytes)) (outputsOf (columns bytes) (eliminationOf bytes))
-  earlier-outputs = record { symbol = λ i h. output i h .symbol; shift = λ i h. omega (arith, output i h .shift) }
+  pub earlier-outputs : EarlierOutputs compiledLimits (columns bytes) (operationsOf (columns bytes) (eliminationOf bytes)) (outputsOf (columns bytes) (eliminationOf bytes))
+  earlier-outputs i h = output-index (OutputOperand compiledLimits (n + length (operationsOf n e))) (outputsOf n e) outputs-within i h
 
   -- the size is known from the counts
-  pub size-is : length (compiledBytes bytes) ≡ 8 + 12 * length (operationsOf (columns bytes) (eliminationOf bytes)) + 9 * length (outputsOf (columns bytes) (eliminationOf bytes)) + 8
+  pub size-is : length (compiledBytes bytes) ≡ netlistLength headLength (length (operationsOf (columns bytes) (eliminationOf bytes))) (length (outputsOf (columns bytes) (eliminationOf bytes)))
   size-is = netlist-length sampleWidth (rows bytes) n first e stepped ∙ omega (arith, length-outputs n first e stepped)
 
 pub netlist-is : (bytes : List ℕ) → recordedNetlist sampleWidth (rows bytes) (columns bytes) (operationsOf (columns bytes) (eliminationOf bytes)) (outputsOf (columns bytes) (eliminationOf bytes)) ≡ compiledNetlist bytes

@@ -7,35 +7,38 @@ use native.Mathlib.Omega.{arith}
 use lib.IntN.{ℤ, pos}
 use lib.ListN.{length, getD, take, drop, set, replicate, take-append-drop, drop-of-length-le, length-append, length-map, length-drop}
 use lib.Seq.{drop-cons, take-suc, length-take-le}
+use Rattle.limits.specs.Limits.{maxColumns, sampleWidth, maxShift, symbols, maxCompiledWidth}
 use Rattle.layout.specs.declared.Operation.{Operation}
 use Rattle.layout.specs.declared.Output.{Output}
-use Rattle.layout.specs.Records.{Netlist, headBytes, operationBytes, outputBytes, totalsBytes, netlistBytes}
+use Rattle.layout.specs.Records.{Netlist, headLength, headBytes, operationLength, operationBytes, outputLength, outputBytes, totalsLength, totalsBytes, netlistBytes}
+use Rattle.layout.specs.Places.{operationPlace, outputPlace}
 use Rattle.layout.specs.Written.{written}
 use borrow.Rule.Slice.PartMut.{putMid}
 use Rattle.layout.proofs.Written.{written-part, written-start, written-nothing, written-after, length-written}
 use Rattle.layout.proofs.Lengths.{length-head, length-operation, length-output, length-totals, length-records}
 use Rattle.width.specs.Machine.{entryForm, operationDepth, depths, depth}
 use Rattle.width.specs.Width.{width}
-use Rattle.width.specs.Table.{filled, tableCoefficient, row, operationCoefficient, operationRow, formAppended, HoldsForms, SmallForms, SmallRange}
+use Rattle.width.specs.Table.{filled, formsLength, tableCoefficient, row, operationCoefficient, operationRow, formAppended, HoldsForms, SmallForms, SmallRange}
 use Rattle.width.proofs.FormLaws.{columns-at, columns-same, length-columns, entry-form-keeps}
 use Rattle.width.proofs.TableLaws.{take-filled, sets-inside, operation-row-is, output-row-is, appended-holds, front-at, depth-appended}
 use Rattle.width.proofs.DepthLaws.{depth-snoc, depths-at-most}
 use Rattle.width.proofs.BoundLaws.{forms-small, appended-range-small, output-row-range-small}
 use Rattle.compiler.specs.Lists.{noOperation, noOutput}
-use Rattle.compilation.specs.Compile.{sampleWidth, withWidth, withWidths, outputWithWidth}
+use Rattle.compilation.specs.Compile.{withWidth, withWidths, outputWithWidth}
+use Rattle.compilation.specs.Compiled.{compiledLimits}
 use Rattle.compiler.specs.Tables.{Writable, EarlierOutputs, WritableOutputs, withTableWidth}
 use Rattle.compilation.proofs.Counts.{length-with-widths}
 
 -- ---- a row that is written is read back
 
-pub appended-row : (table : List ℤ) (n : ℕ) (o : Operation) (symbol : ℕ) → n ≤ 8 → symbol < 512 → length table ≡ 4096
+pub appended-row : (table : List ℤ) (n : ℕ) (o : Operation) (symbol : ℕ) → n ≤ maxColumns → symbol < symbols → length table ≡ formsLength
     → row (formAppended table n o symbol) n symbol ≡ operationRow table n o
 appended-row table n o symbol l h r =
     columns-same 0 n (tableCoefficient (formAppended table n o symbol) symbol) (operationCoefficient table o)
     (λ j k.
     let inside : j < n = omega arith in
     let first : 0 + j ≡ j = omega arith in
-    sets-inside (pos 0) (operationRow table n o) table (symbol * 8) j (omega (arith, length-columns 0 n (operationCoefficient table o)))
+    sets-inside (pos 0) (operationRow table n o) table (symbol * maxColumns) j (omega (arith, length-columns 0 n (operationCoefficient table o)))
     (omega (arith, length-columns 0 n (operationCoefficient table o)))
     ∙ columns-at 0 n (operationCoefficient table o) j inside
     ∙ ap (operationCoefficient table o) first)
@@ -106,7 +109,7 @@ module _ (n : ℕ) (os : List Operation) where
 
   -- ---- the operation of index k, where the table holds the forms of those before it
 
-  module _ (w : Writable n os) (table : List ℤ) (k : ℕ) (h : k < length os) (H : HoldsForms n (take k os) table) where
+  module _ (w : Writable compiledLimits n os) (table : List ℤ) (k : ℕ) (h : k < length os) (H : HoldsForms n (take k os) table) where
     abbrev o : Operation
     o = getD os k noOperation
 
@@ -117,28 +120,34 @@ module _ (n : ℕ) (os : List Operation) where
     up-to = sym (take-suc os k noOperation h)
 
     first-below : o .a < n + length (take k os)
-    first-below = omega (arith, counted, w .first-earlier k h)
+    first-below = omega (arith, counted, w .operation k h .first-earlier)
 
     second-below : o .b < n + length (take k os)
-    second-below = omega (arith, counted, w .second-earlier k h)
+    second-below = omega (arith, counted, w .operation k h .second-earlier)
+
+    first-shift : o .sa ≤ maxShift
+    first-shift = omega (arith, w .operation k h .first-shift)
+
+    second-shift : o .sb ≤ maxShift
+    second-shift = omega (arith, w .operation k h .second-shift)
 
     -- an earlier entry's form is that among all operations
-    early : (symbol : ℕ) → symbol < n + length (take k os) → width sampleWidth (entryForm n (take k os) symbol) ≤ 35
+    early : (symbol : ℕ) → symbol < n + length (take k os) → width sampleWidth (entryForm n (take k os) symbol) ≤ maxCompiledWidth
     early symbol l =
         let whole : entryForm n os symbol ≡ entryForm n (take k os) symbol = ap (λ (ps : List Operation). entryForm n ps symbol) (sym (take-append-drop k os)) ∙ entry-form-keeps n (take k os) (drop k os) symbol l in
         omega (arith, w .narrow symbol (omega (arith, counted)), ap (width sampleWidth) whole)
 
     pub small-forms : SmallForms table n (getD os k noOperation)
-    small-forms = forms-small sampleWidth 35 15 n (take k os) table H o first-below second-below (early (o .a) first-below) (early (o .b) second-below)
-        (w .first-shift k h) (w .second-shift k h) (omega arith)
+    small-forms = forms-small sampleWidth maxCompiledWidth maxShift n (take k os) table H o first-below second-below (early (o .a) first-below) (early (o .b) second-below)
+        first-shift second-shift (omega arith)
 
     row-entry : operationRow table n (getD os k noOperation) ≡ entryForm n (take k os ++ (o ∷ [])) (n + length (take k os))
     row-entry = operation-row-is n (take k os) table H o first-below second-below
 
     pub small-range : SmallRange sampleWidth (operationRow table n (getD os k noOperation))
     small-range = subst (SmallRange sampleWidth) (sym row-entry)
-        (appended-range-small sampleWidth 35 15 n (take k os) table H (omega arith) o first-below second-below (early (o .a) first-below) (early (o .b) second-below)
-        (w .first-shift k h) (w .second-shift k h) (omega arith))
+        (appended-range-small sampleWidth maxCompiledWidth maxShift n (take k os) table H (omega arith) o first-below second-below (early (o .a) first-below) (early (o .b) second-below)
+        first-shift second-shift (omega arith))
 
     -- its coefficients are those of its symbol among all operations
     pub row-form : operationRow table n (getD os k noOperation) ≡ entryForm n os (n + k)
@@ -155,24 +164,25 @@ module _ (n : ℕ) (os : List Operation) where
         (appended-holds n (take k os) table H o first-below second-below (w .inputs) (omega (arith, counted, w .few, w .inputs))))
 
     -- its record is the next of those that are left
-    pub operation-written : (buffer last : List ℕ) (p : Operation) → p ≡ getD os k noOperation → 8 + 12 * length os ≤ length buffer
-        → last ≡ operationBytes (withWidth (width sampleWidth (operationRow table n p)) p) ++ drop 12 (take (length buffer - (8 + 12 * k)) (drop (8 + 12 * k) buffer))
-        → (length (putMid (8 + 12 * k) (length buffer - (8 + 12 * k)) buffer last) ≡ length buffer)
-        × (written (putMid (8 + 12 * k) (length buffer - (8 + 12 * k)) buffer last) (8 + 12 * suc k) (flatMap operationBytes (recordedFrom (suc k)))
-        ≡ written buffer (8 + 12 * k) (flatMap operationBytes (recordedFrom k)))
-    operation-written buffer last p e room f =
+    pub operation-written : (buffer last : List ℕ) (p : Operation) (place : ℕ) → p ≡ getD os k noOperation → place ≡ operationPlace headLength k
+        → operationPlace headLength (length os) ≤ length buffer
+        → last ≡ operationBytes (withWidth (width sampleWidth (operationRow table n p)) p) ++ drop operationLength (take (length buffer - place) (drop place buffer))
+        → (length (putMid place (length buffer - place) buffer last) ≡ length buffer)
+        × (written (putMid place (length buffer - place) buffer last) (operationPlace headLength (suc k)) (flatMap operationBytes (recordedFrom (suc k)))
+        ≡ written buffer (operationPlace headLength k) (flatMap operationBytes (recordedFrom k)))
+    operation-written buffer last p place e at room f =
         let x : Operation = withWidth (width sampleWidth (entryForm n os (n + k))) o in
         let same : withWidth (width sampleWidth (operationRow table n p)) p ≡ x =
         ap (λ (q : Operation). withWidth (width sampleWidth (operationRow table n q)) q) e ∙ ap (λ (cs : List ℤ). withWidth (width sampleWidth cs) o) row-form in
-        let is : last ≡ operationBytes x ++ drop 12 (take (length buffer - (8 + 12 * k)) (drop (8 + 12 * k) buffer)) =
-        f ∙ ap (λ (q : Operation). operationBytes q ++ drop 12 (take (length buffer - (8 + 12 * k)) (drop (8 + 12 * k) buffer))) same in
-        let both = part-next operationBytes 12 length-operation buffer last (8 + 12 * k) (8 + 12 * suc k) x (recordedFrom (suc k)) (omega arith)
+        let is : last ≡ operationBytes x ++ drop operationLength (take (length buffer - place) (drop place buffer)) =
+        f ∙ ap (λ (q : Operation). operationBytes q ++ drop operationLength (take (length buffer - place) (drop place buffer))) same in
+        let both = part-next operationBytes operationLength length-operation buffer last place (operationPlace headLength (suc k)) x (recordedFrom (suc k)) (omega arith)
         (omega (arith, length-recorded (suc k) h)) is in
-        (both .0, both .1 ∙ ap (λ (l : List Operation). written buffer (8 + 12 * k) (flatMap operationBytes l)) (sym (recorded-next k h)))
+        (both .0, both .1 ∙ ap₂ (λ (j : ℕ) (l : List Operation). written buffer j (flatMap operationBytes l)) at (sym (recorded-next k h)))
 
   -- ---- depths
 
-  module _ (w : Writable n os) (table : List ℕ) (k : ℕ) (h : k < length os) (size : length table ≡ 512) (e : take (n + k) table ≡ depths (replicate n 0) (take k os)) where
+  module _ (w : Writable compiledLimits n os) (table : List ℕ) (k : ℕ) (h : k < length os) (size : length table ≡ symbols) (e : take (n + k) table ≡ depths (replicate n 0) (take k os)) where
     up-to-next : take k os ++ (getD os k noOperation ∷ []) ≡ take (suc k) os
     up-to-next = sym (take-suc os k noOperation h)
 
@@ -184,14 +194,14 @@ module _ (n : ℕ) (os : List Operation) where
     depths-next =
         let symbol : n + suc k ≡ suc (n + k) = omega arith in
         ap (λ (j : ℕ). take j (set table (n + k) (operationDepth table (getD os k noOperation)))) symbol
-        ∙ depth-appended (replicate n 0) (take k os) (getD os k noOperation) table (n + k) e (omega (arith, w .few, w .inputs)) (w .first-earlier k h) (w .second-earlier k h)
+        ∙ depth-appended (replicate n 0) (take k os) (getD os k noOperation) table (n + k) e (omega (arith, w .few, w .inputs)) (w .operation k h .first-earlier) (w .operation k h .second-earlier)
         ∙ ap (depths (replicate n 0)) up-to-next
 
     pub depth-next : max (depth n (take k os)) (operationDepth table (getD os k noOperation)) ≡ depth n (take (suc k) os)
     depth-next =
         let o : Operation = getD os k noOperation in
-        let first = front-at 0 table (n + k) e (o .a) (w .first-earlier k h) in
-        let second = front-at 0 table (n + k) e (o .b) (w .second-earlier k h) in
+        let first = front-at 0 table (n + k) e (o .a) (w .operation k h .first-earlier) in
+        let second = front-at 0 table (n + k) e (o .b) (w .operation k h .second-earlier) in
         ap (max (depth n (take k os))) (ap₂ (λ (x y : ℕ). suc (max x y)) first second)
         ∙ sym (depth-snoc n (take k os) o)
         ∙ ap (depth n) up-to-next
@@ -202,44 +212,46 @@ depths-start n size h = let none : n + 0 ≡ n = omega arith in ap (λ (k : ℕ)
 
 -- ---- outputs
 
-module _ (f : Output → Output) (outputs : List Output) (place i : ℕ) where
-  pub output-written : i < length outputs → (buffer last : List ℕ) (o : Output) → o ≡ getD outputs i noOutput → place + 9 * length outputs ≤ length buffer
-      → last ≡ outputBytes (f o) ++ drop 9 (take (length buffer - (place + 9 * i)) (drop (place + 9 * i) buffer))
-      → (length (putMid (place + 9 * i) (length buffer - (place + 9 * i)) buffer last) ≡ length buffer)
-      × (written (putMid (place + 9 * i) (length buffer - (place + 9 * i)) buffer last) (place + 9 * suc i) (flatMap outputBytes (map f (drop (suc i) outputs)))
-      ≡ written buffer (place + 9 * i) (flatMap outputBytes (map f (drop i outputs))))
-  output-written h buffer last o e room g =
-      let both = part-next outputBytes 9 length-output buffer last (place + 9 * i) (place + 9 * suc i) (f o) (map f (drop (suc i) outputs)) (omega arith)
+module _ (f : Output → Output) (outputs : List Output) (operations i : ℕ) where
+  pub output-written : i < length outputs → (buffer last : List ℕ) (o : Output) (place : ℕ) → o ≡ getD outputs i noOutput → place ≡ outputPlace headLength operations i
+      → outputPlace headLength operations (length outputs) ≤ length buffer
+      → last ≡ outputBytes (f o) ++ drop outputLength (take (length buffer - place) (drop place buffer))
+      → (length (putMid place (length buffer - place) buffer last) ≡ length buffer)
+      × (written (putMid place (length buffer - place) buffer last) (outputPlace headLength operations (suc i)) (flatMap outputBytes (map f (drop (suc i) outputs)))
+      ≡ written buffer (outputPlace headLength operations i) (flatMap outputBytes (map f (drop i outputs))))
+  output-written h buffer last o place e at room g =
+      let both = part-next outputBytes outputLength length-output buffer last place (outputPlace headLength operations (suc i)) (f o) (map f (drop (suc i) outputs)) (omega arith)
       (omega (arith, length-map (drop (suc i) outputs) f, length-drop (suc i) outputs)) g in (
         both .0,
         both .1
-            ∙ ap (λ (p : Output). written buffer (place + 9 * i) (flatMap outputBytes (f p ∷ map f (drop (suc i) outputs)))) e
-            ∙ ap (λ (l : List Output). written buffer (place + 9 * i) (flatMap outputBytes (map f l))) (sym (drop-cons outputs i noOutput h)),
+            ∙ ap₂ (λ (j : ℕ) (p : Output). written buffer j (flatMap outputBytes (f p ∷ map f (drop (suc i) outputs)))) at e
+            ∙ ap (λ (l : List Output). written buffer (outputPlace headLength operations i) (flatMap outputBytes (map f l))) (sym (drop-cons outputs i noOutput h)),
       )
 
-  pub outputs-written : length outputs ≤ i → (buffer : List ℕ) → buffer ≡ written buffer (place + 9 * i) (flatMap outputBytes (map f (drop i outputs)))
-  outputs-written h buffer = records-none outputBytes 9 length-output buffer (place + 9 * i) (map f (drop i outputs)) (ap (map f) (drop-of-length-le outputs {i = i} h))
+  pub outputs-written : length outputs ≤ i → (buffer : List ℕ) → buffer ≡ written buffer (outputPlace headLength operations i) (flatMap outputBytes (map f (drop i outputs)))
+  outputs-written h buffer =
+      records-none outputBytes outputLength length-output buffer (outputPlace headLength operations i) (map f (drop i outputs)) (ap (map f) (drop-of-length-le outputs {i = i} h))
 
 -- an output's width in a table that holds the forms is its width among the operations
-module _ (n : ℕ) (os : List Operation) (table : List ℤ) (H : HoldsForms n os table) (w : Writable n os) (outputs : List Output) (later : EarlierOutputs n os outputs) where
+module _ (n : ℕ) (os : List Operation) (table : List ℤ) (H : HoldsForms n os table) (w : Writable compiledLimits n os) (outputs : List Output) (later : EarlierOutputs compiledLimits n os outputs) where
   pub outputs-writable : WritableOutputs table n outputs
   outputs-writable = record {
     inputs = w .inputs;
-    symbol = λ i h. omega (arith, later .symbol i h, w .few, w .inputs);
-    shift = later .shift;
-    range = λ i h. output-row-range-small sampleWidth 35 15 n os table H (omega arith) (getD outputs i noOutput) (later .symbol i h) (w .narrow (getD outputs i noOutput .symbol) (later .symbol i h)) (later .shift i h) (omega arith);
+    symbol = λ i h. omega (arith, later i h .symbol, w .few, w .inputs);
+    shift = λ i h. omega (arith, later i h .shift);
+    range = λ i h. output-row-range-small sampleWidth maxCompiledWidth maxShift n os table H (omega arith) (getD outputs i noOutput) (later i h .symbol) (w .narrow (getD outputs i noOutput .symbol) (later i h .symbol)) (omega (arith, later i h .shift)) (omega arith);
   }
 
 same-map : {A B : Type 0} (f g : A → B) (d : A) (l : List A) → ((i : ℕ) → i < length l → f (getD l i d) ≡ g (getD l i d)) → map f l ≡ map g l
 same-map f g d [] e = refl
 same-map f g d (x ∷ l) e = ap₂ _∷_ (e 0 (omega arith)) (same-map f g d l (λ i h. e (suc i) (omega arith)))
 
-pub table-widths : (n : ℕ) (os : List Operation) (table : List ℤ) → HoldsForms n os table → (outputs : List Output) → EarlierOutputs n os outputs
+pub table-widths : (n : ℕ) (os : List Operation) (table : List ℤ) → HoldsForms n os table → (outputs : List Output) → EarlierOutputs compiledLimits n os outputs
     → map (withTableWidth sampleWidth n table) outputs ≡ map (outputWithWidth sampleWidth n os) outputs
 table-widths n os table H outputs later = same-map (withTableWidth sampleWidth n table) (outputWithWidth sampleWidth n os) noOutput outputs
     (λ i h.
     let o : Output = getD outputs i noOutput in
-    ap (λ (cs : List ℤ). record { sign = o .sign; symbol = o .symbol; shift = o .shift; width = width sampleWidth cs }) (output-row-is n os table H o (later .symbol i h)))
+    ap (λ (cs : List ℤ). record { sign = o .sign; symbol = o .symbol; shift = o .shift; width = width sampleWidth cs }) (output-row-is n os table H o (later i h .symbol)))
 
 -- ---- the whole netlist
 
@@ -258,28 +270,29 @@ module _ (net : Netlist) (buffer : List ℕ) where
 
   -- head, operations, outputs, totals, one after another
   pub netlist-written : (after-head after-operations after-outputs last : List ℕ) (place end : ℕ)
-      → place ≡ 8 + 12 * length (net .operations) → end ≡ place + 9 * length (net .outputs) → end + 8 ≤ length buffer
-      → after-head ≡ headBytes (net .head) ++ drop 8 buffer
-      → after-operations ≡ written after-head 8 operationRecords
+      → place ≡ operationPlace headLength (length (net .operations)) → end ≡ outputPlace headLength (length (net .operations)) (length (net .outputs))
+      → end + totalsLength ≤ length buffer
+      → after-head ≡ headBytes (net .head) ++ drop headLength buffer
+      → after-operations ≡ written after-head headLength operationRecords
       → after-outputs ≡ written after-operations place outputRecords
-      → last ≡ totalsBytes (net .totals) ++ drop 8 (take (length after-outputs - end) (drop end after-outputs))
+      → last ≡ totalsBytes (net .totals) ++ drop totalsLength (take (length after-outputs - end) (drop end after-outputs))
       → putMid end (length after-outputs - end) after-outputs last ≡ written buffer 0 (netlistBytes net)
   netlist-written after-head after-operations after-outputs last place end p q room a b c d =
       let H : List ℕ = headBytes (net .head) in
       let T : List ℕ = totalsBytes (net .totals) in
-      let lh : length H ≡ 8 = length-head (net .head) in
-      let lo : length operationRecords ≡ 12 * length (net .operations) = length-records operationBytes 12 length-operation (net .operations) in
-      let lu : length outputRecords ≡ 9 * length (net .outputs) = length-records outputBytes 9 length-output (net .outputs) in
-      let lt : length T ≡ 8 = length-totals (net .totals) in
-      let one : after-head ≡ written buffer 0 H = a ∙ written-start buffer H 8 lh in
+      let lh : length H ≡ headLength = length-head (net .head) in
+      let lo : length operationRecords ≡ operationLength * length (net .operations) = length-records operationBytes operationLength length-operation (net .operations) in
+      let lu : length outputRecords ≡ outputLength * length (net .outputs) = length-records outputBytes outputLength length-output (net .outputs) in
+      let lt : length T ≡ totalsLength = length-totals (net .totals) in
+      let one : after-head ≡ written buffer 0 H = a ∙ written-start buffer H headLength lh in
       let lho : length (H ++ operationRecords) ≡ place = length-append H operationRecords ∙ omega arith in
       let lhou : length ((H ++ operationRecords) ++ outputRecords) ≡ end = length-append (H ++ operationRecords) outputRecords ∙ omega arith in
       let two : after-operations ≡ written buffer 0 (H ++ operationRecords) =
-      b ∙ ap (λ (l : List ℕ). written l 8 operationRecords) one ∙ written-after buffer 0 H operationRecords 8 (omega arith) (omega arith) in
+      b ∙ ap (λ (l : List ℕ). written l headLength operationRecords) one ∙ written-after buffer 0 H operationRecords headLength (omega arith) (omega arith) in
       let three : after-outputs ≡ written buffer 0 ((H ++ operationRecords) ++ outputRecords) =
       c ∙ ap (λ (l : List ℕ). written l place outputRecords) two ∙ written-after buffer 0 (H ++ operationRecords) outputRecords place (omega arith) (omega arith) in
       let size : length after-outputs ≡ length buffer = ap length three ∙ length-written buffer 0 ((H ++ operationRecords) ++ outputRecords) (omega arith) in
-      written-part after-outputs end T last 8 lt (omega arith) d
+      written-part after-outputs end T last totalsLength lt (omega arith) d
       ∙ ap (λ (l : List ℕ). written l end T) three
       ∙ written-after buffer 0 ((H ++ operationRecords) ++ outputRecords) T end (omega arith) (omega arith)
       ∙ ap (written buffer 0) netlist-bytes

@@ -4,6 +4,7 @@ use Prim.Native.Nat.{ℕ}
 use mathlib.Core.Path.{_≡_}
 use mathlib.Core.List.{List}
 use lib.ListN.{length}
+use Rattle.limits.specs.Limits.{positions}
 use Rattle.elimination.specs.Rows.{matrixRows, plainCount}
 use Rattle.elimination.specs.Elimination as rules
 use Rattle.eliminate.specs.State.{rowsTerms}
@@ -11,7 +12,7 @@ use Rattle.layout.specs.Matrix.{matrix, columns}
 use Rattle.compiler.specs.declared.eliminated.Eliminated.{Eliminated}
 use Rattle.compiler.specs.declared.planned.Planned.{Planned}
 use Rattle.compiler.specs.Lists.{divisorsList, operationsList, outputsList}
-use Rattle.compilation.specs.Compile.{positions, operationsOf, outputsOf, eliminationOf}
+use Rattle.compilation.specs.Compile.{operationsOf, outputsOf, eliminationOf}
 
 -- elimination's end by value, as document 01's
 abbrev pub eliminatedOf : Eliminated → rules.Eliminated

@@ -13,32 +13,33 @@ ghost use mathlib.Core.Bool.{xor};
 ghost use mathlib.Core.List.{_++_, map};
 ghost use Prim.Native.Nat.{_+_, _≤_, pred};
 ghost use lib.ListN.{length};
+ghost use Rattle.limits.specs.Limits.{maxRows, maxColumns, maxOperations, symbols};
 ghost use Rattle.eliminate.specs.State.{rowTerms, rowsTerms};
 ghost use Rattle.elimination.specs.Rows.{plainCount};
 ghost use Rattle.compiler.specs.Lists.{divisorsList, operationsList, outputsList};
-ghost use Rattle.compilation.specs.Chains.{signOf, divisorOperation, chain, chains, rowOutput, rowOutputs};
+ghost use Rattle.compilation.specs.Chains.{signField, divisorOperation, chain, chains, rowOutput, rowOutputs};
 
 // 0 add or plus, 1 subtract or minus.
-fn sign_of(minus: bool) -> u8
-    ensures { λ r. ⌜ r ≡ signOf minus ⌝ }
+fn sign_field(minus: bool) -> u8
+    ensures { λ r. ⌜ r ≡ signField minus ⌝ }
 {
     if minus { 1 } else { 0 }
 }
 
 // A term's sign, turned or not.
 fn turned_sign(turned: bool, negative: bool) -> u8
-    ensures { λ r. ⌜ r ≡ signOf (xor turned negative) ⌝ }
+    ensures { λ r. ⌜ r ≡ signField (xor turned negative) ⌝ }
 {
     if turned {
-        return sign_of(!negative);
+        return sign_field(!negative);
     }
-    sign_of(negative)
+    sign_field(negative)
 }
 
 fn divisor_operation(d: Divisor) -> Operation
     ensures { λ r. ⌜ r ≡ divisorOperation d ⌝ }
 {
-    let sign = sign_of(d.minus);
+    let sign = sign_field(d.minus);
     Operation {
         sign,
         a: d.a,
@@ -51,7 +52,7 @@ fn divisor_operation(d: Divisor) -> Operation
 
 // One operation per divisor.
 pub fn divisor_operations(divisors: Divisors) -> Operations
-    requires { ⌜ length (divisorsList divisors) ≤ 504 ⌝ }
+    requires { ⌜ length (divisorsList divisors) ≤ maxOperations ⌝ }
     ensures { λ r. ⌜ operationsList r ≡ map divisorOperation (divisorsList divisors) ⌝ }
 {
     let count = divisors.count();
@@ -64,7 +65,7 @@ pub fn divisor_operations(divisors: Divisors) -> Operations
 
 // The sum so far with one term.
 fn chain_operation(symbol: u16, shift: u8, turned: bool, t: Term) -> Operation
-    ensures { λ r. ⌜ r ≡ record { sign = signOf (xor turned (t .negative)); a = symbol; sa = shift; b = t .symbol; sb = t .exponent; width = 0 } ⌝ }
+    ensures { λ r. ⌜ r ≡ record { sign = signField (xor turned (t .negative)); a = symbol; sa = shift; b = t .symbol; sb = t .exponent; width = 0 } ⌝ }
 {
     let sign = turned_sign(turned, t.negative());
     Operation {
@@ -79,8 +80,8 @@ fn chain_operation(symbol: u16, shift: u8, turned: bool, t: Term) -> Operation
 
 // A row's chain, behind the operations so far; n inputs stand before them.
 pub fn with_chain(operations: Operations, row: Row, n: usize) -> Operations
-    requires { ⌜ n ≤ 8 ⌝ }
-    requires { ⌜ length (operationsList operations) + pred (length (rowTerms row)) ≤ 504 ⌝ }
+    requires { ⌜ n ≤ maxColumns ⌝ }
+    requires { ⌜ length (operationsList operations) + pred (length (rowTerms row)) ≤ maxOperations ⌝ }
     ensures { λ r. ⌜ operationsList r ≡ operationsList operations ++ chain (n + length (operationsList operations)) (rowTerms row) ⌝ }
 {
     let count = row.count();
@@ -104,8 +105,8 @@ pub fn with_chain(operations: Operations, row: Row, n: usize) -> Operations
 
 // Per remaining row its chain.
 pub fn with_chains(operations: Operations, rows: Rows, n: usize) -> Operations
-    requires { ⌜ n ≤ 8 ⌝ }
-    requires { ⌜ length (operationsList operations) + plainCount (rowsTerms rows) ≤ 504 ⌝ }
+    requires { ⌜ n ≤ maxColumns ⌝ }
+    requires { ⌜ length (operationsList operations) + plainCount (rowsTerms rows) ≤ maxOperations ⌝ }
     ensures { λ r. ⌜ operationsList r ≡ operationsList operations ++ chains (n + length (operationsList operations)) (rowsTerms rows) ⌝ }
 {
     let m = rows.m();
@@ -131,7 +132,7 @@ pub fn row_output(row: Row, next: u16) -> Output
         };
     }
     let first = row.term(0);
-    let sign = sign_of(first.negative());
+    let sign = sign_field(first.negative());
     if count == 1 {
         return Output {
             sign,
@@ -158,7 +159,7 @@ pub fn chain_length(row: Row) -> usize
 
 // "The plain count is the sum over these rows of (terms − 1), a row without terms giving 0."
 pub fn plain_count(rows: Rows) -> usize
-    requires { ⌜ plainCount (rowsTerms rows) ≤ 504 ⌝ }
+    requires { ⌜ plainCount (rowsTerms rows) ≤ maxOperations ⌝ }
     ensures { λ r. ⌜ r ≡ plainCount (rowsTerms rows) ⌝ }
 {
     let m = rows.m();
@@ -171,8 +172,8 @@ pub fn plain_count(rows: Rows) -> usize
 
 // The rows' outputs; the first chain's first operation has the symbol `first`.
 pub fn row_outputs(rows: Rows, first: u16) -> Outputs
-    requires { ⌜ first + plainCount (rowsTerms rows) ≤ 512 ⌝ }
-    requires { ⌜ length (rowsTerms rows) ≤ 8 ⌝ }
+    requires { ⌜ first + plainCount (rowsTerms rows) ≤ symbols ⌝ }
+    requires { ⌜ length (rowsTerms rows) ≤ maxRows ⌝ }
     ensures { λ r. ⌜ outputsList r ≡ rowOutputs first (rowsTerms rows) ⌝ }
 {
     let m = rows.m();

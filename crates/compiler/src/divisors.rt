@@ -1,15 +1,17 @@
 // Document 01, "Elimination": the divisors made so far, oldest first, by value. Rests on `elimination`.
 // The fields are private, so that nothing makes such a list but its methods.
 use elimination::Divisor;
+use limits::MAX_DIVISORS;
 ghost use mathlib.Core.Path.{_≡_};
 ghost use mathlib.Core.List.{[], _∷_, _++_};
 ghost use Prim.Native.Nat.{_<_};
 ghost use lib.ListN.{length, getD};
+ghost use Rattle.limits.specs.Limits.{maxDivisors};
 ghost use Rattle.compiler.specs.Lists.{divisorsList, noDivisor};
 
 // "Divisors number at most 252."
 pub struct Divisors {
-    list: [Divisor; 252],
+    list: [Divisor; MAX_DIVISORS],
     count: usize,
 }
 
@@ -25,13 +27,13 @@ impl Divisors {
             minus: false,
         };
         Divisors {
-            list: [d; 252],
+            list: [d; MAX_DIVISORS],
             count: 0,
         }
     }
 
     pub fn push(self, d: Divisor) -> Divisors
-        requires { ⌜ length (divisorsList self) < 252 ⌝ }
+        requires { ⌜ length (divisorsList self) < maxDivisors ⌝ }
         ensures { λ r. ⌜ divisorsList r ≡ divisorsList self ++ (d ∷ []) ⌝ }
     {
         let mut divisors = self;
@@ -41,11 +43,15 @@ impl Divisors {
         divisors
     }
 
-    // No method makes a count above 252.
+    // No method makes a count above the most.
     pub fn count(self) -> usize
         ensures { λ r. ⌜ r ≡ length (divisorsList self) ⌝ }
     {
-        if self.count < 252 { self.count } else { 252 }
+        if self.count < MAX_DIVISORS {
+            self.count
+        } else {
+            MAX_DIVISORS
+        }
     }
 
     pub fn divisor(self, i: usize) -> Divisor

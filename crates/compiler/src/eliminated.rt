@@ -4,6 +4,7 @@ use eliminate::rows::Rows;
 use term::Term;
 ghost use mathlib.Core.Path.{_≡_};
 ghost use Prim.Native.Nat.{_≤_};
+ghost use Rattle.limits.specs.Limits.{maxColumns, maxOperations};
 ghost use Rattle.eliminate.specs.State.{rowsTerms, Ready};
 ghost use Rattle.elimination.specs.Rows.{plainCount};
 ghost use Rattle.elimination.specs.Elimination.{smallestFirst, elimination};
@@ -16,9 +17,10 @@ pub struct Eliminated {
     pub rows: Rows,
 }
 
-// Steps until one replaces nothing. A divisor beyond the highest symbol would be the 253rd, and then nothing is left to replace.
+// Steps until one replaces nothing. A divisor beyond the highest symbol would be one more than the most, and then nothing is
+// left to replace.
 pub fn eliminate_rows(rows: Rows, n: u16) -> Eliminated
-    requires { ⌜ Ready n (rowsTerms rows) × (n ≤ 8) × (plainCount (rowsTerms rows) ≤ 504) ⌝ }
+    requires { ⌜ Ready n (rowsTerms rows) × (n ≤ maxColumns) × (plainCount (rowsTerms rows) ≤ maxOperations) ⌝ }
     ensures { λ r. ⌜ eliminatedOf r ≡ elimination smallestFirst n (rowsTerms rows) ⌝ }
 {
     let mut left = rows;

@@ -10,6 +10,8 @@ pub mod planned; // planned.rt: the operations and outputs of a matrix record, a
 pub mod write; // write.rt: the netlist's records, with widths and depth
 
 use compilation::CompileAnswer;
+use layout::places::HEAD_LENGTH;
+use layout::places::netlist_length;
 use write::write_netlist;
 ghost use mathlib.Core.Path.{_≡_};
 ghost use lib.ListN.{length};
@@ -28,7 +30,7 @@ pub fn compile(matrix: &[u8], buffer: &mut [u8]) -> CompileAnswer
     let operations = plan.operations;
     let outputs = plan.outputs;
     let count = operations.count();
-    let size = 8 + 12 * count + 9 * outputs.count() + 8;
+    let size = netlist_length(HEAD_LENGTH, count, outputs.count());
     if buffer.len() < size {
         return CompileAnswer::refused(6);
     }

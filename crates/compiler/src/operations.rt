@@ -1,15 +1,17 @@
 // Document 01, "Netlist and board machine": the operations of a netlist in order, by value. Rests on `layout`.
 // The fields are private, so that nothing makes such a list but its methods.
 use layout::Operation;
+use limits::MAX_OPERATIONS;
 ghost use mathlib.Core.Path.{_≡_};
 ghost use mathlib.Core.List.{[], _∷_, _++_};
 ghost use Prim.Native.Nat.{_<_};
 ghost use lib.ListN.{length, getD};
+ghost use Rattle.limits.specs.Limits.{maxOperations};
 ghost use Rattle.compiler.specs.Lists.{operationsList, noOperation};
 
 // "operations (2 bytes, at most 504)".
 pub struct Operations {
-    list: [Operation; 504],
+    list: [Operation; MAX_OPERATIONS],
     count: usize,
 }
 
@@ -26,13 +28,13 @@ impl Operations {
             width: 0,
         };
         Operations {
-            list: [o; 504],
+            list: [o; MAX_OPERATIONS],
             count: 0,
         }
     }
 
     pub fn push(self, o: Operation) -> Operations
-        requires { ⌜ length (operationsList self) < 504 ⌝ }
+        requires { ⌜ length (operationsList self) < maxOperations ⌝ }
         ensures { λ r. ⌜ operationsList r ≡ operationsList self ++ (o ∷ []) ⌝ }
     {
         let mut operations = self;
@@ -42,11 +44,15 @@ impl Operations {
         operations
     }
 
-    // No method makes a count above 504.
+    // No method makes a count above the most.
     pub fn count(self) -> usize
         ensures { λ r. ⌜ r ≡ length (operationsList self) ⌝ }
     {
-        if self.count < 504 { self.count } else { 504 }
+        if self.count < MAX_OPERATIONS {
+            self.count
+        } else {
+            MAX_OPERATIONS
+        }
     }
 
     pub fn operation(self, i: usize) -> Operation

@@ -1,15 +1,17 @@
 // Document 01, "Netlist and board machine": the outputs of a netlist, one per row, by value. Rests on `layout`.
 // The fields are private, so that nothing makes such a list but its methods.
 use layout::Output;
+use limits::MAX_ROWS;
 ghost use mathlib.Core.Path.{_≡_};
 ghost use mathlib.Core.List.{[], _∷_, _++_};
-ghost use Prim.Native.Nat.{_<_};
+ghost use Prim.Native.Nat.{_≤_, _<_};
 ghost use lib.ListN.{length, getD};
+ghost use Rattle.limits.specs.Limits.{maxRows};
 ghost use Rattle.compiler.specs.Lists.{outputsList, noOutput};
 
-// At most 8 rows.
+// As many as rows at the most.
 pub struct Outputs {
-    list: [Output; 8],
+    list: [Output; MAX_ROWS],
     count: usize,
 }
 
@@ -24,13 +26,13 @@ impl Outputs {
             width: 0,
         };
         Outputs {
-            list: [o; 8],
+            list: [o; MAX_ROWS],
             count: 0,
         }
     }
 
     pub fn push(self, o: Output) -> Outputs
-        requires { ⌜ length (outputsList self) < 8 ⌝ }
+        requires { ⌜ length (outputsList self) < maxRows ⌝ }
         ensures { λ r. ⌜ outputsList r ≡ outputsList self ++ (o ∷ []) ⌝ }
     {
         let mut outputs = self;
@@ -40,11 +42,15 @@ impl Outputs {
         outputs
     }
 
-    // No method makes a count above 8.
+    // No method makes a count above the most.
     pub fn count(self) -> usize
-        ensures { λ r. ⌜ r ≡ length (outputsList self) ⌝ }
+        ensures { λ r. ⌜ (r ≡ length (outputsList self)) × (r ≤ maxRows) ⌝ }
     {
-        if self.count < 8 { self.count } else { 8 }
+        if self.count < MAX_ROWS {
+            self.count
+        } else {
+            MAX_ROWS
+        }
     }
 
     pub fn output(self, i: usize) -> Output

@@ -2,16 +2,16 @@
 use eliminate::row::Row;
 use eliminate::rows::Rows;
 ghost use mathlib.Core.Path.{_≡_};
-ghost use Prim.Native.Nat.{_+_, _*_, _≤_};
+ghost use Prim.Native.Nat.{_+_, _≤_};
 ghost use lib.ListN.{length};
-ghost use Rattle.layout.specs.Matrix.{coefficientsFrom, rowsFrom};
+ghost use Rattle.limits.specs.Limits.{maxRows, maxColumns, positions};
+ghost use Rattle.layout.specs.Matrix.{coefficientPlace, matrixLength, coefficientsFrom, rowsFrom};
 ghost use Rattle.eliminate.specs.State.{rowTerms, rowsTerms};
 ghost use Rattle.elimination.specs.Rows.{rowFrom, matrixRows};
-ghost use Rattle.compilation.specs.Compile.{positions};
 
 // The row of n coefficients from an index on.
 fn matrix_row(bytes: &[u8], index: usize, n: usize) -> Row
-    requires { ⌜ (n ≤ 8) × (6 + 2 * (index + n) ≤ length (now bytes)) ⌝ }
+    requires { ⌜ (n ≤ maxColumns) × (coefficientPlace (index + n) ≤ length (now bytes)) ⌝ }
     ensures { λ r. ⌜ rowTerms r ≡ rowFrom positions 0 (coefficientsFrom (now (bytes .entry)) index n) ⌝ }
 {
     let mut row = Row::empty();
@@ -24,7 +24,7 @@ fn matrix_row(bytes: &[u8], index: usize, n: usize) -> Row
 
 // The rows of a matrix record of m rows and n columns.
 pub fn matrix_rows(bytes: &[u8], m: usize, n: usize) -> Rows
-    requires { ⌜ (m ≤ 8) × (n ≤ 8) × (6 + 2 * (m * n) ≤ length (now bytes)) ⌝ }
+    requires { ⌜ (m ≤ maxRows) × (n ≤ maxColumns) × (matrixLength m n ≤ length (now bytes)) ⌝ }
     ensures { λ r. ⌜ rowsTerms r ≡ matrixRows positions (rowsFrom (now (bytes .entry)) n 0 m) ⌝ }
 {
     let mut rows = Rows::empty();

@@ -6,36 +6,41 @@ use layout::Head;
 use layout::Operation;
 use layout::Output;
 use layout::Totals;
+use layout::places::HEAD_LENGTH;
+use layout::places::operation_place;
+use layout::places::output_place;
+use limits::SAMPLE_WIDTH;
+use width::FORMS_LENGTH;
 ghost use mathlib.Core.Path.{_≡_};
 ghost use mathlib.Core.List.{[], _++_, flatMap, map};
-ghost use Prim.Native.Nat.{_+_, _*_, _≤_, _<_, max};
+ghost use Prim.Native.Nat.{_≤_, _<_};
 ghost use lib.ListN.{length, drop};
-ghost use Rattle.layout.specs.Records.{operationBytes, outputBytes, netlistBytes};
+ghost use Rattle.limits.specs.Limits.{maxColumns, sampleWidth, maxOperations, symbols};
+ghost use Rattle.layout.specs.Records.{headLength, operationLength, operationBytes, outputBytes, netlistBytes};
+ghost use Rattle.layout.specs.Places.{operationPlace, outputPlace, netlistLength};
 ghost use Rattle.layout.specs.Written.{written};
 ghost use Rattle.width.specs.Machine.{depth};
 ghost use Rattle.width.specs.Width.{width};
-ghost use Rattle.width.specs.Table.{operationRow, formAppended, HoldsForms, SmallForms, SmallRange};
+ghost use Rattle.width.specs.Table.{formsLength, operationRow, formAppended, HoldsForms, SmallForms, SmallRange};
 ghost use Rattle.compiler.specs.Lists.{operationsList, outputsList};
-ghost use Rattle.compilation.specs.Compile.{sampleWidth, withWidth, withWidths};
+ghost use Rattle.compilation.specs.Compile.{withWidth, withWidths};
+ghost use Rattle.compilation.specs.Compiled.{compiledLimits};
 ghost use Rattle.compiler.specs.Tables.{Writable, WritableOutputs, EarlierOutputs, withTableWidth, recordedNetlist};
-
-// "over all samples from −32,768 to 32,767".
-const SAMPLE_WIDTH: u8 = 16;
 
 // The coefficients of one operation into the row of its symbol, and its record, with its width, at the start of the lent part.
 fn write_operation(
     buffer: &mut [u8],
-    forms: &mut [i64; 4096],
+    forms: &mut [i64; FORMS_LENGTH],
     o: Operation,
     symbol: usize,
     n: usize,
 )
-    requires { ⌜ (symbol < 512) × (n ≤ 8) ⌝ }
+    requires { ⌜ (symbol < symbols) × (n ≤ maxColumns) ⌝ }
     requires { ⌜ (o .a < symbol) × (o .b < symbol) ⌝ }
     requires { ⌜ SmallForms (now forms) n o × SmallRange sampleWidth (operationRow (now forms) n o) ⌝ }
-    requires { ⌜ (length (now forms) ≡ 4096) × (12 ≤ length (now buffer)) ⌝ }
+    requires { ⌜ (length (now forms) ≡ formsLength) × (operationLength ≤ length (now buffer)) ⌝ }
     ensures { λ _. ⌜ now (forms .exit) ≡ formAppended (now (forms .entry)) n o symbol ⌝ }
-    ensures { λ _. ⌜ now (buffer .exit) ≡ operationBytes (withWidth (width sampleWidth (operationRow (now (forms .entry)) n o)) o) ++ drop 12 (now (buffer .entry)) ⌝ }
+    ensures { λ _. ⌜ now (buffer .exit) ≡ operationBytes (withWidth (width sampleWidth (operationRow (now (forms .entry)) n o)) o) ++ drop operationLength (now (buffer .entry)) ⌝ }
 {
     width::append_form(forms, o, symbol, n);
     let width = width::entry_width(forms, symbol, n, SAMPLE_WIDTH);
@@ -53,34 +58,34 @@ fn write_operation(
 // All operations, behind the head.
 pub fn write_operations(
     buffer: &mut [u8],
-    forms: &mut [i64; 4096],
+    forms: &mut [i64; FORMS_LENGTH],
     operations: Operations,
     n: usize,
 )
-    requires { ⌜ Writable n (operationsList operations) × HoldsForms n [] (now forms) ⌝ }
-    requires { ⌜ 8 + 12 * length (operationsList operations) ≤ length (now buffer) ⌝ }
+    requires { ⌜ Writable compiledLimits n (operationsList operations) × HoldsForms n [] (now forms) ⌝ }
+    requires { ⌜ operationPlace headLength (length (operationsList operations)) ≤ length (now buffer) ⌝ }
     ensures { λ _. ⌜ HoldsForms n (operationsList operations) (now (forms .exit)) ⌝ }
-    ensures { λ _. ⌜ now (buffer .exit) ≡ written (now (buffer .entry)) 8 (flatMap operationBytes (withWidths sampleWidth n (operationsList operations) n (operationsList operations))) ⌝ }
+    ensures { λ _. ⌜ now (buffer .exit) ≡ written (now (buffer .entry)) headLength (flatMap operationBytes (withWidths sampleWidth n (operationsList operations) n (operationsList operations))) ⌝ }
 {
     let count = operations.count();
     for k in 0..count {
         let o = operations.operation(k);
-        let place = 8 + 12 * k;
+        let place = operation_place(HEAD_LENGTH, k);
         write_operation(&mut buffer[place..], forms, o, n + k, n);
     }
 }
 
-// All outputs from a place on, each with the width of its coefficients in the table.
+// All outputs, behind so many operations, each with the width of its coefficients in the table.
 pub fn write_outputs(
     buffer: &mut [u8],
-    forms: &[i64; 4096],
+    forms: &[i64; FORMS_LENGTH],
     outputs: Outputs,
-    place: usize,
+    operations: usize,
     n: usize,
 )
     requires { ⌜ WritableOutputs (now forms) n (outputsList outputs) ⌝ }
-    requires { ⌜ place + 9 * length (outputsList outputs) ≤ length (now buffer) ⌝ }
-    ensures { λ _. ⌜ now (buffer .exit) ≡ written (now (buffer .entry)) place (flatMap outputBytes (map (withTableWidth sampleWidth n (now (forms .entry))) (outputsList outputs))) ⌝ }
+    requires { ⌜ (operations ≤ maxOperations) × (outputPlace headLength operations (length (outputsList outputs)) ≤ length (now buffer)) ⌝ }
+    ensures { λ _. ⌜ now (buffer .exit) ≡ written (now (buffer .entry)) (operationPlace headLength operations) (flatMap outputBytes (map (withTableWidth sampleWidth n (now (forms .entry))) (outputsList outputs))) ⌝ }
 {
     let count = outputs.count();
     for i in 0..count {
@@ -92,14 +97,14 @@ pub fn write_outputs(
             shift: o.shift,
             width,
         };
-        let at = place + 9 * i;
+        let at = output_place(HEAD_LENGTH, operations, i);
         layout::write::write_output(&mut buffer[at..], recorded);
     }
 }
 
 // The netlist's depth: the largest of all operations.
 pub fn depth_of(operations: Operations, n: usize) -> u16
-    requires { ⌜ Writable n (operationsList operations) ⌝ }
+    requires { ⌜ Writable compiledLimits n (operationsList operations) ⌝ }
     ensures { λ r. ⌜ r ≡ depth n (operationsList operations) ⌝ }
 {
     let count = operations.count();
@@ -121,8 +126,8 @@ pub fn write_netlist(
     m: u8,
     n: u8,
 ) -> u16
-    requires { ⌜ Writable n (operationsList operations) × EarlierOutputs n (operationsList operations) (outputsList outputs) ⌝ }
-    requires { ⌜ 16 + 12 * length (operationsList operations) + 9 * length (outputsList outputs) ≤ length (now buffer) ⌝ }
+    requires { ⌜ Writable compiledLimits n (operationsList operations) × EarlierOutputs compiledLimits n (operationsList operations) (outputsList outputs) ⌝ }
+    requires { ⌜ netlistLength headLength (length (operationsList operations)) (length (outputsList outputs)) ≤ length (now buffer) ⌝ }
     ensures { λ r. ⌜ r ≡ depth n (operationsList operations) ⌝ }
     ensures { λ _. ⌜ now (buffer .exit) ≡ written (now (buffer .entry)) 0 (netlistBytes (recordedNetlist sampleWidth m n (operationsList operations) (outputsList outputs))) ⌝ }
 {
@@ -137,14 +142,13 @@ pub fn write_netlist(
     let mut forms = width::blank_forms();
     width::start_forms(&mut forms, columns);
     write_operations(buffer, &mut forms, operations, columns);
-    let place = 8 + 12 * count;
-    write_outputs(buffer, &forms, outputs, place, columns);
+    write_outputs(buffer, &forms, outputs, count, columns);
     let depth = depth_of(operations, columns);
     let totals = Totals {
         operations: count as u16,
         depth,
     };
-    let end = place + 9 * outputs.count();
+    let end = output_place(HEAD_LENGTH, count, outputs.count());
     layout::write::write_totals(&mut buffer[end..], totals);
     depth
 }

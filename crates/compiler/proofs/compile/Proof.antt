@@ -1,21 +1,25 @@
 -- `compiler::compile` meets its contract. Assumes nothing.
 use borrow.Author.Needs.{needs}
 use native.Mathlib.Omega.{arith}
-use Prim.Native.Nat.{ℕ, _+_, _*_, _≤_, _<_}
+use Prim.Native.Nat.{ℕ, _≤_, _<_}
 use mathlib.Core.Path.{_≡_, sym, ap, subst, _∙_}
 use mathlib.Core.List.{List}
 use lib.ListN.{length}
+use Rattle.limits.specs.Limits.{maxOperations}
 use Rattle.layout.specs.declared.Operation.{Operation}
 use Rattle.layout.specs.declared.Output.{Output}
-use Rattle.layout.specs.Matrix.{matrixRefusal, rows, columns}
+use Rattle.layout.specs.Matrix.{matrixRefusal, columns}
+use Rattle.layout.specs.Records.{headLength}
+use Rattle.layout.specs.Places.{netlistLength}
 use Rattle.layout.proofs.LittleEndian.{AreBytes}
 use Rattle.layout.proofs.MatrixRefusal.{accepted-matrix}
 use Rattle.width.specs.Machine.{depth}
 use Rattle.compiler.specs.Lists.{operationsList, outputsList}
 use Rattle.compilation.specs.Compile.{operationsOf, eliminationOf, compiledBytes}
+use Rattle.compilation.specs.Compiled.{compiledLimits}
 use Rattle.compiler.specs.Tables.{Writable, EarlierOutputs}
-use Rattle.compilation.proofs.Compiled.{limits, plain-most, answer-short, answer-accepted, buffer-short, buffer-accepted}
-use Rattle.compiler.proofs.PlanLaws.{operations-most, operations-sum, replacements-most, outputs-are, writable, earlier-outputs, size-is, declined, accepted-is, buffer-is}
+use Rattle.compilation.proofs.Compiled.{plain-most, answer-short, answer-accepted, buffer-short, buffer-accepted}
+use Rattle.compiler.proofs.PlanLaws.{operations-most, operations-sum, replacements-most, writable, earlier-outputs, size-is, declined, accepted-is, buffer-is}
 use Rattle.compiler.proofs.compile.Statement.{statement}
 use Rattle.compiler.proofs.compile.Tie as tie
 
@@ -55,53 +59,35 @@ module _ (c : tie.After-plan) where
   abbrev outputs : List Output
   outputs = outputsList (c .plan .result .outputs)
 
-  few : length os ≤ 504
+  few : length os ≤ maxOperations
   few = omega (arith, ap (length {A = Operation}) (c .plan .ensures .operations), operations-most bytes all accepted)
 
-  rows-are : length outputs ≡ rows bytes
-  rows-are = ap (length {A = Output}) (c .plan .ensures .outputs) ∙ outputs-are bytes all accepted
-
-  size : length (compiledBytes bytes) ≡ 8 + 12 * length os + 9 * length outputs + 8
+  size : length (compiledBytes bytes) ≡ netlistLength headLength (length os) (length outputs)
   size = omega (arith, size-is bytes all accepted, ap (length {A = Operation}) (c .plan .ensures .operations), ap (length {A = Output}) (c .plan .ensures .outputs))
 
 count-requires : tie.Need-count-requires
 count-requires c κs = search needs
 
-mul-size : tie.Need-mul-size
-mul-size c = omega (arith, few (c .before .before .before), c .count .ensures)
-
-add-size : tie.Need-add-size
-add-size c = omega (arith, few (c .before .before .before), c .count .ensures)
-
 count-requires-2 : tie.Need-count-requires-2
 count-requires-2 c κs = search needs
 
--- both counts, in the plan's terms
-module _ (c : tie.After-count2) where
+netlist-length-requires : tie.Need-netlist-length-requires
+netlist-length-requires c κs = omega (arith, c .before .count .ensures, few (c .before .before .before .before), c .count2 .ensures .1)
+
+-- the size, in the plan's terms
+module _ (c : tie.After-netlist-length) where
   abbrev plan : tie.After-plan
-  plan = c .before .before .before .before
+  plan = c .before .before .before .before .before
 
-  rows-few : length (outputs plan) ≤ 8
-  rows-few = omega (arith, rows-are plan, limits (bytes plan) (all plan) (accepted plan) .rows-most)
+  counted : c .before .before .count .result ≤ maxOperations
+  counted = omega (arith, c .before .before .count .ensures, few plan)
 
-  small : (c .before .count .result ≤ 504) × (c .count2 .result ≤ 8)
-  small = (omega (arith, c .before .count .ensures, few plan), omega (arith, c .count2 .ensures, rows-few))
-
-  is-size : ((8 + 12 * c .before .count .result) + 9 * c .count2 .result) + 8 ≡ length (compiledBytes (bytes plan))
-  is-size = omega (arith, size plan, c .before .count .ensures, c .count2 .ensures)
+  is-size : c .netlist-length .result ≡ length (compiledBytes (bytes plan))
+  is-size = omega (arith, c .netlist-length .ensures, size plan, c .before .before .count .ensures, c .before .count2 .ensures .0)
 
 -- the bytes of m and n are there
-enough : (c : tie.After-count2) → (i : ℕ) → i < 6 → i < length (bytes (plan c))
+enough : (c : tie.After-netlist-length) → (i : ℕ) → i < 6 → i < length (bytes (plan c))
 enough c i h = omega (arith, accepted-matrix (bytes (plan c)) (accepted (plan c)) .enough)
-
-mul-size-2 : tie.Need-mul-size-2
-mul-size-2 c = omega (arith, small c)
-
-add-size-2 : tie.Need-add-size-2
-add-size-2 c = omega (arith, small c)
-
-add-size-3 : tie.Need-add-size-3
-add-size-3 c = omega (arith, small c)
 
 refused-requires-2 : tie.Need-refused-requires-2
 refused-requires-2 c κs = search needs
@@ -126,27 +112,27 @@ write-netlist-requires c κs =
     let g = c .before .before .before .before in
     let p = plan g in
     let b = bytes p in
-    let first : Writable (columns b) (os p) = subst (λ (l : List Operation). Writable (columns b) l) (sym (p .plan .ensures .operations)) (writable b (all p) (accepted p)) in
-    let second : EarlierOutputs (columns b) (os p) (outputs p) =
-    subst (λ (l : List Operation). EarlierOutputs (columns b) l (outputs p)) (sym (p .plan .ensures .operations))
-    (subst (λ (l : List Output). EarlierOutputs (columns b) (operationsOf (columns b) (eliminationOf b)) l) (sym (p .plan .ensures .outputs)) (earlier-outputs b (all p) (accepted p))) in
-    ((first, second), omega (arith, g .before .count .ensures, g .count2 .ensures, c .before .before .before .if2 .left))
+    let first : Writable compiledLimits (columns b) (os p) = subst (λ (l : List Operation). Writable compiledLimits (columns b) l) (sym (p .plan .ensures .operations)) (writable b (all p) (accepted p)) in
+    let second : EarlierOutputs compiledLimits (columns b) (os p) (outputs p) =
+    subst (λ (l : List Operation). EarlierOutputs compiledLimits (columns b) l (outputs p)) (sym (p .plan .ensures .operations))
+    (subst (λ (l : List Output). EarlierOutputs compiledLimits (columns b) (operationsOf (columns b) (eliminationOf b)) l) (sym (p .plan .ensures .outputs)) (earlier-outputs b (all p) (accepted p))) in
+    ((first, second), omega (arith, is-size g, size p, c .before .before .before .if2 .left))
 
-cast-t22 : tie.Need-cast-t22
-cast-t22 c = omega (arith, small (c .before .before .before .before .before .before .before))
+cast-t18 : tie.Need-cast-t18
+cast-t18 c = omega (arith, counted (c .before .before .before .before .before .before .before))
 
-cast-t23 : tie.Need-cast-t23
-cast-t23 c =
+cast-t19 : tie.Need-cast-t19
+cast-t19 c =
     let p = plan (c .before .before .before .before .before .before .before .before) in
     omega (arith, p .plan .ensures .plain, plain-most (bytes p) (all p) (accepted p))
 
-cast-t24 : tie.Need-cast-t24
-cast-t24 c =
+cast-t20 : tie.Need-cast-t20
+cast-t20 c =
     let p = plan (c .before .before .before .before .before .before .before .before .before) in
     omega (arith, p .plan .ensures .divisors, operations-sum (bytes p) (all p) (accepted p))
 
-cast-t25 : tie.Need-cast-t25
-cast-t25 c =
+cast-t21 : tie.Need-cast-t21
+cast-t21 c =
     let p = plan (c .before .before .before .before .before .before .before .before .before .before) in
     omega (arith, p .plan .ensures .replacements, replacements-most (bytes p) (all p) (accepted p))
 
@@ -162,7 +148,7 @@ returns-3 c =
     let b = bytes p in
     let buffer = known p .before .args .buffer .now in
     let room : length (compiledBytes b) ≤ length buffer = omega (arith, is-size g, fits .if2 .left) in (
-      accepted-is b _ _ _ _ _ _ (is-size g) (g .before .count .ensures ∙ ap (length {A = Operation}) (p .plan .ensures .operations)) (p .plan .ensures .plain) (p .plan .ensures .divisors)
+      accepted-is b _ _ _ _ _ _ (is-size g) (g .before .before .count .ensures ∙ ap (length {A = Operation}) (p .plan .ensures .operations)) (p .plan .ensures .plain) (p .plan .ensures .divisors)
           (p .plan .ensures .replacements) (w .write-netlist .ensures .0 ∙ ap (depth (columns b)) (p .plan .ensures .operations))
           ∙ sym (answer-accepted b (length buffer) (accepted p) room),
       w .write-netlist .ensures .1 ∙ buffer-is b buffer (os p) (outputs p) (p .plan .ensures .operations) (p .plan .ensures .outputs) ∙ sym (buffer-accepted b buffer (accepted p) room),
@@ -177,20 +163,16 @@ compile-spec =
     returns
     plan-requires
     count-requires
-    mul-size
-    add-size
     count-requires-2
-    mul-size-2
-    add-size-2
-    add-size-3
+    netlist-length-requires
     refused-requires-2
     returns-2
     shared-slice-read-write-netlist
     shared-slice-read-write-netlist-2
     write-netlist-requires
-    cast-t22
-    cast-t23
-    cast-t24
-    cast-t25
+    cast-t18
+    cast-t19
+    cast-t20
+    cast-t21
     same-length
     returns-3)

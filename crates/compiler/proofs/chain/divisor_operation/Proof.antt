@@ -3,15 +3,15 @@ use borrow.Author.Needs.{needs}
 use Rattle.compiler.proofs.chain.divisor_operation.Statement.{statement}
 use Rattle.compiler.proofs.chain.divisor_operation.Tie as tie
 
-sign-of-requires : tie.Need-sign-of-requires
-sign-of-requires c κs = search needs
+sign-field-requires : tie.Need-sign-field-requires
+sign-field-requires c κs = search needs
 
 returns : tie.Need-returns
-returns c = rw (c .sign-of .ensures)
+returns c = rw (c .sign-field .ensures)
 
 pub divisor-operation-spec : {M : Type 1} → statement M
 divisor-operation-spec =
     tie.close
     (tie.spec
-    sign-of-requires
+    sign-field-requires
     returns)

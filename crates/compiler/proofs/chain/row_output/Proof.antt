@@ -3,7 +3,7 @@ use borrow.Author.Needs.{needs}
 use native.Mathlib.Omega.{arith}
 use mathlib.Core.Path.{ap, _∙_}
 use Rattle.eliminate.specs.State.{rowTerms}
-use Rattle.compilation.specs.Chains.{signOf}
+use Rattle.compilation.specs.Chains.{signField}
 use Rattle.compiler.proofs.ChainLaws.{output-none, output-one-is, output-more-is}
 use Rattle.compiler.proofs.chain.row_output.Statement.{statement}
 use Rattle.compiler.proofs.chain.row_output.Tie as tie
@@ -20,8 +20,8 @@ term-requires c κs = search needs
 negative-requires : tie.Need-negative-requires
 negative-requires c κs = search needs
 
-sign-of-requires : tie.Need-sign-of-requires
-sign-of-requires c κs = search needs
+sign-field-requires : tie.Need-sign-field-requires
+sign-field-requires c κs = search needs
 
 symbol-requires : tie.Need-symbol-requires
 symbol-requires c κs = search needs
@@ -34,8 +34,8 @@ returns-2 c =
     let g = c .before .before .before in
     let t = g .before .before in
     let s = t .before .before .before in
-    output-one-is (s .args .next) (g .sign-of .result) (c .before .symbol .result) (c .exponent .result) (t .term .result) (rowTerms (s .args .row)) (omega arith) (t .term .ensures)
-    (g .sign-of .ensures ∙ ap signOf (g .before .negative .ensures)) (c .before .symbol .ensures) (c .exponent .ensures)
+    output-one-is (s .args .next) (g .sign-field .result) (c .before .symbol .result) (c .exponent .result) (t .term .result) (rowTerms (s .args .row)) (omega arith) (t .term .ensures)
+    (g .sign-field .ensures ∙ ap signField (g .before .negative .ensures)) (c .before .symbol .ensures) (c .exponent .ensures)
 
 sub-t9 : tie.Need-sub-t9
 sub-t9 c = search needs
@@ -51,8 +51,8 @@ returns-3 c =
     let g = c .before in
     let t = g .before .before in
     let s = t .before .before .before in
-    output-more-is (s .args .next) (g .sign-of .result) (t .before .before .count .result) (t .term .result) (rowTerms (s .args .row)) (omega arith) (t .before .before .count .ensures) (t .term .ensures)
-    (g .sign-of .ensures ∙ ap signOf (g .before .negative .ensures))
+    output-more-is (s .args .next) (g .sign-field .result) (t .before .before .count .result) (t .term .result) (rowTerms (s .args .row)) (omega arith) (t .before .before .count .ensures) (t .term .ensures)
+    (g .sign-field .ensures ∙ ap signField (g .before .negative .ensures))
 
 pub row-output-spec : {M : Type 1} → statement M
 row-output-spec =
@@ -62,7 +62,7 @@ row-output-spec =
     returns
     term-requires
     negative-requires
-    sign-of-requires
+    sign-field-requires
     symbol-requires
     exponent-requires
     returns-2

@@ -6,6 +6,7 @@ use mathlib.Core.Path.{_≡_, refl, ap, _∙_}
 use mathlib.Core.List.{[], _++_}
 use native.Mathlib.Numerals.{add-one}
 use lib.ListN.{length, getD, drop, length-append}
+use Rattle.limits.specs.Limits.{maxOperations}
 use Rattle.elimination.specs.Rows.{Row, plainCount}
 use Rattle.eliminate.specs.State.{rowsTerms}
 use Rattle.compiler.specs.Lists.{operationsList}
@@ -16,7 +17,7 @@ use Rattle.compiler.proofs.chain.with_chains.Tie as tie
 
 abbrev Inv-loop : tie.InvT-loop
 Inv-loop rows n m out₀ i₀ out i =
-    (i ≤ m) × (length (operationsList out) + plainCount (drop i (rowsTerms rows)) ≤ 504)
+    (i ≤ m) × (length (operationsList out) + plainCount (drop i (rowsTerms rows)) ≤ maxOperations)
     × (operationsList out ++ chains (n + length (operationsList out)) (drop i (rowsTerms rows)) ≡ operationsList out₀ ++ chains (n + length (operationsList out₀)) (rowsTerms rows))
 
 abbrev μ-loop : tie.MeasureT-loop

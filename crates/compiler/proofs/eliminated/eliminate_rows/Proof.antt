@@ -6,6 +6,7 @@ use mathlib.Core.Path.{_≡_, _∙_}
 use mathlib.Core.List.{[], _∷_}
 use native.Mathlib.Numerals.{add-one}
 use lib.ListN.{length, length-append}
+use Rattle.limits.specs.Limits.{maxOperations}
 use Rattle.elimination.specs.Rows.{plainCount}
 use Rattle.elimination.specs.Elimination.{smallestFirst, elimination}
 use Rattle.eliminate.specs.State.{rowsTerms, Ready}
@@ -17,8 +18,8 @@ use Rattle.compiler.proofs.eliminated.eliminate_rows.Tie as tie
 
 abbrev Inv-loop : tie.InvT-loop
 Inv-loop n left₀ symbol₀ divisors₀ replacements₀ left symbol divisors replacements =
-    Ready symbol (rowsTerms left) × (symbol ≡ n + length (divisorsList divisors)) × (2 * length (divisorsList divisors) + plainCount (rowsTerms left) ≤ 504)
-    × (replacements + plainCount (rowsTerms left) ≤ 504)
+    Ready symbol (rowsTerms left) × (symbol ≡ n + length (divisorsList divisors)) × (2 * length (divisorsList divisors) + plainCount (rowsTerms left) ≤ maxOperations)
+    × (replacements + plainCount (rowsTerms left) ≤ maxOperations)
     × (withRest (divisorsList divisors) replacements (restOf symbol (divisorsList divisors) (rowsTerms left)) ≡ elimination smallestFirst n (rowsTerms left₀))
 
 abbrev μ-loop : tie.MeasureT-loop

@@ -5,6 +5,7 @@ use Prim.Native.Nat.{ℕ, _+_, _≤_}
 use mathlib.Core.Path.{_≡_, sym, ap, subst, _∙_}
 use mathlib.Core.List.{List}
 use lib.ListN.{length, length-map}
+use Rattle.limits.specs.Limits.{positions, maxOperations}
 use Rattle.layout.specs.Matrix.{matrix, rows, columns}
 use Rattle.layout.proofs.LittleEndian.{AreBytes}
 use Rattle.layout.proofs.MatrixRefusal.{AcceptedMatrix, accepted-matrix}
@@ -14,7 +15,7 @@ use Rattle.elimination.specs.Elimination.{Eliminated, smallestFirst, eliminatio
 use Rattle.eliminate.specs.State.{rowsTerms, Ready}
 use Rattle.compiler.specs.Lists.{divisorsList, operationsList}
 use Rattle.compilation.specs.Chains.{divisorOperation}
-use Rattle.compilation.specs.Compile.{positions, eliminationOf}
+use Rattle.compilation.specs.Compile.{eliminationOf}
 use Rattle.compiler.specs.Planned.{eliminatedOf}
 use Rattle.compilation.proofs.Compiled.{plain-most}
 use Rattle.compiler.proofs.PlanLaws.{ready, operations-sum, remaining-few, operations-of, outputs-of, elimination-is}
@@ -36,16 +37,16 @@ shared-slice-read-m : tie.Need-shared-slice-read-m
 shared-slice-read-m c = omega (arith, accepted (c .before) .enough)
 
 cast-m : tie.Need-cast-m
-cast-m c = omega (arith, accepted (c .before) .rows-most)
+cast-m c = omega (arith, accepted (c .before) .limits .rows-most)
 
 shared-slice-read-n : tie.Need-shared-slice-read-n
 shared-slice-read-n c = omega (arith, accepted (c .before .before) .enough)
 
 cast-n : tie.Need-cast-n
-cast-n c = omega (arith, accepted (c .before .before) .columns-most)
+cast-n c = omega (arith, accepted (c .before .before) .limits .columns-most)
 
 matrix-rows-requires : tie.Need-matrix-rows-requires
-matrix-rows-requires c κs = let a = accepted (c .before .before) in (a .rows-most, a .columns-most, omega (arith, a .size))
+matrix-rows-requires c κs = let a = accepted (c .before .before) in (a .limits .rows-most, a .limits .columns-most, omega (arith, a .size))
 
 -- the matrix's rows
 module _ (c : tie.After-matrix-rows) where
@@ -56,20 +57,20 @@ module _ (c : tie.After-matrix-rows) where
   unfolding matrix
   first-is = c .matrix-rows .ensures
 
-  few : plainCount (rowsTerms (c .matrix-rows .result)) ≤ 504
+  few : plainCount (rowsTerms (c .matrix-rows .result)) ≤ maxOperations
   few = omega (arith, ap plainCount first-is, plain-most (bytes known) (all known) (known .before .pre))
 
 plain-count-requires : tie.Need-plain-count-requires
 plain-count-requires c κs = few c
 
 cast-eliminate-rows : tie.Need-cast-eliminate-rows
-cast-eliminate-rows c = omega (arith, accepted (known (c .before)) .columns-most)
+cast-eliminate-rows c = omega (arith, accepted (known (c .before)) .limits .columns-most)
 
 eliminate-rows-requires : tie.Need-eliminate-rows-requires
 eliminate-rows-requires c κs =
     let g = c .before in
     let k = known g in
-    (subst (λ (rs : List Row). Ready (columns (bytes k)) rs) (sym (first-is g)) (ready (bytes k) (all k) (k .before .pre)), accepted k .columns-most, few g)
+    (subst (λ (rs : List Row). Ready (columns (bytes k)) rs) (sym (first-is g)) (ready (bytes k) (all k) (k .before .pre)), accepted k .limits .columns-most, few g)
 
 -- elimination's end
 module _ (c : tie.After-eliminate-rows) where
@@ -85,7 +86,7 @@ module _ (c : tie.After-eliminate-rows) where
   rows-are : rowsTerms (c .eliminate-rows .result .rows) ≡ eliminationOf (bytes start) .remainingRows
   rows-are = ap (λ (e : Eliminated). e .remainingRows) end-is
 
-  sum : length (divisorsList (c .eliminate-rows .result .divisors)) + plainCount (rowsTerms (c .eliminate-rows .result .rows)) ≤ 504
+  sum : length (divisorsList (c .eliminate-rows .result .divisors)) + plainCount (rowsTerms (c .eliminate-rows .result .rows)) ≤ maxOperations
   sum = omega (arith, ap (length {A = Divisor}) divisors-are, ap plainCount rows-are, operations-sum (bytes start) (all start) (start .before .pre))
 
 count-requires : tie.Need-count-requires
@@ -98,19 +99,19 @@ with-chains-requires : tie.Need-with-chains-requires
 with-chains-requires c κs =
     let g = c .before .before .before .before in
     let ds = divisorsList (g .eliminate-rows .result .divisors) in
-    (accepted (start g) .columns-most, omega (arith, sum g, ap length (c .divisor-operations .ensures), length-map ds divisorOperation))
+    (accepted (start g) .limits .columns-most, omega (arith, sum g, ap length (c .divisor-operations .ensures), length-map ds divisorOperation))
 
 add-row-outputs : tie.Need-add-row-outputs
-add-row-outputs c = let g = c .before .before .before .before .before in omega (arith, sum g, c .before .before .count .ensures, accepted (start g) .columns-most)
+add-row-outputs c = let g = c .before .before .before .before .before in omega (arith, sum g, c .before .before .count .ensures, accepted (start g) .limits .columns-most)
 
 cast-row-outputs : tie.Need-cast-row-outputs
-cast-row-outputs c = let g = c .before .before .before .before .before in omega (arith, sum g, c .before .before .count .ensures, accepted (start g) .columns-most)
+cast-row-outputs c = let g = c .before .before .before .before .before in omega (arith, sum g, c .before .before .count .ensures, accepted (start g) .limits .columns-most)
 
 row-outputs-requires : tie.Need-row-outputs-requires
 row-outputs-requires c κs =
     let g = c .before .before .before .before .before in
     let k = start g in (
-      omega (arith, sum g, c .before .before .count .ensures, accepted k .columns-most),
+      omega (arith, sum g, c .before .before .count .ensures, accepted k .limits .columns-most),
       omega (arith, ap (length {A = Row}) (rows-are g), remaining-few (bytes k) (all k) (k .before .pre)),
     )
 

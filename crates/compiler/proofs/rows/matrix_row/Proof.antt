@@ -9,6 +9,7 @@ use lib.IntN.{ℤ}
 use lib.ListN.{length, length-append}
 use mir.Syntax.{w16}
 use mir.Val.{toZ, ofZ}
+use Rattle.limits.specs.Limits.{positions, maxDigits}
 use Rattle.integers.proofs.Held.{call-result}
 use Rattle.digits.specs.Digits.{digits}
 use Rattle.layout.specs.Matrix.{coefficientAt, coefficientsFrom}
@@ -21,8 +22,8 @@ use Rattle.compiler.proofs.rows.matrix_row.Tie as tie
 
 abbrev Inv-loop : tie.InvT-loop
 Inv-loop bytes index n row₀ j₀ row j =
-    (j ≤ n) × (length (rowTerms row) ≤ 8 * j)
-    × (rowTerms row ++ rowFrom 16 j (coefficientsFrom bytes (index + j) (n - j)) ≡ rowFrom 16 0 (coefficientsFrom bytes index n))
+    (j ≤ n) × (length (rowTerms row) ≤ maxDigits * j)
+    × (rowTerms row ++ rowFrom positions j (coefficientsFrom bytes (index + j) (n - j)) ≡ rowFrom positions 0 (coefficientsFrom bytes index n))
 
 abbrev μ-loop : tie.MeasureT-loop
 μ-loop bytes index n row₀ j₀ row j = n - j
@@ -33,7 +34,7 @@ empty-requires c κs = search needs
 loop-holds : tie.Need-loop-holds Inv-loop μ-loop
 loop-holds c =
     let s = c .before .before in
-    rw (c .empty .ensures) (omega arith, omega arith, ap₂ (λ (x k : ℕ). rowFrom 16 0 (coefficientsFrom (s .args .bytes .now) x k)) (omega arith) (omega arith))
+    rw (c .empty .ensures) (omega arith, omega arith, ap₂ (λ (x k : ℕ). rowFrom positions 0 (coefficientsFrom (s .args .bytes .now) x k)) (omega arith) (omega arith))
 
 add-coefficient : tie.Need-add-coefficient Inv-loop μ-loop
 add-coefficient c = omega arith
@@ -62,19 +63,19 @@ loop-again c =
     let after = rowTerms (c .with-column .result) in
     let z : ℤ = toZ w16 (ofZ w16 (c .before .coefficient .result)) in
     let h : j < s .args .n = omega arith in
-    let e : after ≡ row ++ columnTerms j 0 (digits 16 z) = c .with-column .ensures in
+    let e : after ≡ row ++ columnTerms j 0 (digits positions z) = c .with-column .ensures in
     let f : z ≡ coefficientAt (s .args .bytes .now) (s .args .index + j) = call-result w16 (c .before .coefficient .ok) (c .before .coefficient .ensures) in
     rw (add-one j) (
       omega arith,
-      omega (arith, ap length e, length-append row (columnTerms j 0 (digits 16 z)), column-few 8 j z, L .loop .inv .1),
-      columns-next 16 (s .args .bytes .now) (s .args .index) j (s .args .n) z row after h f e ∙ L .loop .inv .2,
+      omega (arith, ap length e, length-append row (columnTerms j 0 (digits positions z)), column-few maxDigits j z, L .loop .inv .1),
+      columns-next positions (s .args .bytes .now) (s .args .index) j (s .args .n) z row after h f e ∙ L .loop .inv .2,
     )
 
 returns : tie.Need-returns Inv-loop μ-loop
 returns c =
     let L = c .before in
     let s = L .before .before .before in
-    columns-end 16 (s .args .bytes .now) (L .loop .j) (s .args .index + L .loop .j) (s .args .n - L .loop .j) (rowTerms (L .loop .row)) (omega arith) ∙ L .loop .inv .2
+    columns-end positions (s .args .bytes .now) (L .loop .j) (s .args .index + L .loop .j) (s .args .n - L .loop .j) (rowTerms (L .loop .row)) (omega arith) ∙ L .loop .inv .2
 
 pub matrix-row-spec : {M : Type 1} → statement M
 matrix-row-spec =

@@ -1,12 +1,13 @@
 -- `compiler::rows::matrix_rows` meets its contract. Assumes nothing.
 use borrow.Author.Needs.{needs}
 use native.Mathlib.Omega.{arith}
-use Prim.Native.Nat.{ℕ, suc, _+_, _*_, _-_, _≤_, _<_}
+use Prim.Native.Nat.{ℕ, suc, _*_, _-_, _≤_, _<_}
 use mathlib.Core.Path.{_≡_, ap, ap₂, _∙_}
 use mathlib.Core.List.{_++_}
 use native.Mathlib.Numerals.{add-one}
 use native.Mathlib.Nat.{mul-le-mul-right}
 use lib.ListN.{length}
+use Rattle.limits.specs.Limits.{positions}
 use Rattle.layout.specs.Matrix.{rowsFrom}
 use Rattle.elimination.specs.Rows.{matrixRows}
 use Rattle.eliminate.specs.State.{rowTerms, rowsTerms}
@@ -17,7 +18,7 @@ use Rattle.compiler.proofs.rows.matrix_rows.Tie as tie
 
 abbrev Inv-loop : tie.InvT-loop
 Inv-loop bytes m n rows₀ i₀ rows i =
-    (i ≤ m) × (length (rowsTerms rows) ≡ i) × (rowsTerms rows ++ matrixRows 16 (rowsFrom bytes n (i * n) (m - i)) ≡ matrixRows 16 (rowsFrom bytes n 0 m))
+    (i ≤ m) × (length (rowsTerms rows) ≡ i) × (rowsTerms rows ++ matrixRows positions (rowsFrom bytes n (i * n) (m - i)) ≡ matrixRows positions (rowsFrom bytes n 0 m))
 
 abbrev μ-loop : tie.MeasureT-loop
 μ-loop bytes m n rows₀ i₀ rows i = m - i
@@ -28,7 +29,7 @@ empty-requires c κs = search needs
 loop-holds : tie.Need-loop-holds Inv-loop μ-loop
 loop-holds c =
     let s = c .before .before in
-    rw (c .empty .ensures) (omega arith, omega arith, ap₂ (λ (x k : ℕ). matrixRows 16 (rowsFrom (s .args .bytes .now) (s .args .n) x k)) (omega arith) (omega arith))
+    rw (c .empty .ensures) (omega arith, omega arith, ap₂ (λ (x k : ℕ). matrixRows positions (rowsFrom (s .args .bytes .now) (s .args .n) x k)) (omega arith) (omega arith))
 
 -- the coefficients of a row are there
 there : (c : tie.In-loop Inv-loop μ-loop) → (let s = c .before .before .before .before in suc (c .before .loop .i) * s .args .n ≤ s .args .m * s .args .n)
@@ -60,14 +61,14 @@ loop-again c =
     rw (add-one i) (
       omega arith,
       snoc-length out after _ (c .with-row .ensures) ∙ ap suc (L .loop .inv .1),
-      rows-next 16 (s .args .bytes .now) (s .args .n) i (s .args .m) (rowTerms (c .before .matrix-row .result)) out after h (c .before .matrix-row .ensures) (c .with-row .ensures) ∙ L .loop .inv .2,
+      rows-next positions (s .args .bytes .now) (s .args .n) i (s .args .m) (rowTerms (c .before .matrix-row .result)) out after h (c .before .matrix-row .ensures) (c .with-row .ensures) ∙ L .loop .inv .2,
     )
 
 returns : tie.Need-returns Inv-loop μ-loop
 returns c =
     let L = c .before in
     let s = L .before .before .before in
-    rows-end 16 (s .args .bytes .now) (s .args .n) (L .loop .i * s .args .n) (s .args .m - L .loop .i) (rowsTerms (L .loop .rows)) (omega arith) ∙ L .loop .inv .2
+    rows-end positions (s .args .bytes .now) (s .args .n) (L .loop .i * s .args .n) (s .args .m - L .loop .i) (rowsTerms (L .loop .rows)) (omega arith) ∙ L .loop .inv .2
 
 pub matrix-rows-spec : {M : Type 1} → statement M
 matrix-rows-spec =

@@ -7,11 +7,13 @@ use mathlib.Core.List.{List}
 use native.Mathlib.Numerals.{add-one}
 use lib.ListN.{length, getD, take, set, replicate, length-set}
 use lib.Seq.{take-all}
+use Rattle.limits.specs.Limits.{symbols}
 use Rattle.layout.specs.declared.Operation.{Operation}
 use Rattle.width.specs.Machine.{depths, depth, operationDepth}
 use Rattle.width.proofs.DepthLaws.{depth-none}
 use Rattle.width.proofs.TableLaws.{length-filled}
 use Rattle.compiler.specs.Lists.{operationsList, noOperation}
+use Rattle.compilation.specs.Compiled.{compiledLimits}
 use Rattle.compiler.specs.Tables.{Writable}
 use Rattle.compiler.proofs.WriteLaws.{depths-start, depth-small, depths-next, depth-next}
 use Rattle.compiler.proofs.write.depth_of.Statement.{statement}
@@ -19,7 +21,7 @@ use Rattle.compiler.proofs.write.depth_of.Tie as tie
 
 abbrev Inv-loop : tie.InvT-loop
 Inv-loop operations n count table₀ largest₀ k₀ table largest k =
-    (k ≤ count) × (length table ≡ 512) × (take (n + k) table ≡ depths (replicate n 0) (take k (operationsList operations)))
+    (k ≤ count) × (length table ≡ symbols) × (take (n + k) table ≡ depths (replicate n 0) (take k (operationsList operations)))
     × (largest ≡ depth n (take k (operationsList operations)))
 
 abbrev μ-loop : tie.MeasureT-loop
@@ -35,8 +37,8 @@ loop-holds : tie.Need-loop-holds Inv-loop μ-loop
 loop-holds c =
     let s = c .before .before in
     let n = s .args .n in
-    let few : n ≤ 512 = omega (arith, s .pre .inputs) in
-    (omega arith, ap length (c .blank-depths .ensures) ∙ length-filled 0 512, ap (take (n + 0)) (c .blank-depths .ensures) ∙ depths-start n 512 few, sym (depth-none n))
+    let few : n ≤ symbols = omega (arith, s .pre .inputs) in
+    (omega arith, ap length (c .blank-depths .ensures) ∙ length-filled 0 symbols, ap (take (n + 0)) (c .blank-depths .ensures) ∙ depths-start n symbols few, sym (depth-none n))
 
 -- what is asked of the operations
 module _ (c : tie.In-loop Inv-loop μ-loop) where
@@ -46,13 +48,13 @@ module _ (c : tie.In-loop Inv-loop μ-loop) where
   abbrev os : List Operation
   os = operationsList (s .args .operations)
 
-  writable : Writable (s .args .n) os
+  writable : Writable compiledLimits (s .args .n) os
   writable = s .pre
 
   inside : c .before .loop .k < length os
   inside = omega arith
 
-  symbol-below : s .args .n + c .before .loop .k < 512
+  symbol-below : s .args .n + c .before .loop .k < symbols
   symbol-below = omega (arith, inside, writable .few, writable .inputs)
 
   earlier : (symbol : ℕ) → symbol < s .args .n + c .before .loop .k → getD (c .before .loop .depths) symbol 0 < 65535
@@ -68,8 +70,8 @@ operation-depth-requires c κs =
     let k = g .before .loop .k in
     let n = s g .args .n in
     let e = sym (c .operation .ensures) in
-    let first : c .operation .result .a < n + k = subst (λ (o : Operation). o .a < n + k) e (w .first-earlier k (inside g)) in
-    let second : c .operation .result .b < n + k = subst (λ (o : Operation). o .b < n + k) e (w .second-earlier k (inside g)) in
+    let first : c .operation .result .a < n + k = subst (λ (o : Operation). o .a < n + k) e (w .operation k (inside g) .first-earlier) in
+    let second : c .operation .result .b < n + k = subst (λ (o : Operation). o .b < n + k) e (w .operation k (inside g) .second-earlier) in
     ((omega (arith, symbol-below g), omega (arith, symbol-below g)), (earlier g (c .operation .result .a) first, earlier g (c .operation .result .b) second))
 
 add-depths : tie.Need-add-depths Inv-loop μ-loop

@@ -1,21 +1,23 @@
 -- `compiler::write::write_netlist` meets its contract. Assumes nothing.
 use borrow.Author.Needs.{needs}
 use native.Mathlib.Omega.{arith}
-use Prim.Native.Nat.{ℕ, _+_, _*_, _-_}
+use Prim.Native.Nat.{ℕ, _-_}
 use mathlib.Core.Path.{_≡_, sym, ap, ap₂, subst, _∙_}
 use mathlib.Core.List.{List, [], _++_, flatMap}
 use lib.IntN.{ℤ, pos}
 use lib.ListN.{length, take, drop, length-map}
+use Rattle.limits.specs.Limits.{sampleWidth}
 use Rattle.layout.specs.declared.Head.{Head}
 use Rattle.layout.specs.declared.Output.{Output}
-use Rattle.layout.specs.Records.{headBytes, operationBytes, outputBytes, totalsBytes}
+use Rattle.layout.specs.Records.{headLength, headBytes, operationLength, operationBytes, outputBytes, totalsLength, totalsBytes}
+use Rattle.layout.specs.Places.{operationPlace}
 use Rattle.layout.specs.Written.{written}
 use Rattle.layout.proofs.Lengths.{length-head, length-operation, length-records}
 use Rattle.layout.proofs.Written.{written-start, length-written}
-use Rattle.width.specs.Table.{filled, HoldsForms, formsStarted}
+use Rattle.width.specs.Table.{filled, formsLength, HoldsForms, formsStarted}
 use Rattle.width.proofs.TableLaws.{length-filled, started-holds}
 use Rattle.compiler.specs.Lists.{operationsList, outputsList}
-use Rattle.compilation.specs.Compile.{sampleWidth, withWidths, outputWithWidth}
+use Rattle.compilation.specs.Compile.{withWidths, outputWithWidth}
 use Rattle.compiler.specs.Tables.{recordedNetlist}
 use Rattle.compilation.proofs.Counts.{length-with-widths}
 use Rattle.compiler.proofs.WriteLaws.{outputs-writable, table-widths, netlist-written}
@@ -25,8 +27,8 @@ use Rattle.compiler.proofs.write.write_netlist.Tie as tie
 count-requires : tie.Need-count-requires
 count-requires c κs = search needs
 
-cast-t14 : tie.Need-cast-t14
-cast-t14 c = search needs
+cast-t13 : tie.Need-cast-t13
+cast-t13 c = search needs
 
 write-head-requires : tie.Need-write-head-requires
 write-head-requires c κs = search needs
@@ -42,7 +44,7 @@ head-length : (c : tie.After-write-head) → length (c .write-head .last .0) ≡
 head-length c =
     let s = c .before .before .before .before in
     let h : Head = record { m = s .args .m; n = s .args .n; operations = c .before .before .count .result } in
-    ap length (c .write-head .ensures ∙ written-start (s .args .buffer .now) (headBytes h) 8 (length-head h))
+    ap length (c .write-head .ensures ∙ written-start (s .args .buffer .now) (headBytes h) headLength (length-head h))
     ∙ length-written (s .args .buffer .now) 0 (headBytes h) (omega (arith, length-head h, s .pre .1))
 
 -- the table holds the samples' forms
@@ -50,19 +52,13 @@ started : (c : tie.After-start-forms) → (let s = c .before .before .before .be
 started c =
     let s = c .before .before .before .before .before .before .before .before .before in
     subst (HoldsForms (s .args .n) []) (sym (c .start-forms .ensures ∙ ap (λ (t : List ℤ). formsStarted t (s .args .n)) (c .before .before .blank-forms .ensures)))
-    (started-holds (s .args .n) (filled 4096 (pos 0)) (s .pre .0 .0 .inputs) (length-filled (pos 0) 4096))
+    (started-holds (s .args .n) (filled formsLength (pos 0)) (s .pre .0 .0 .inputs) (length-filled (pos 0) formsLength))
 
 write-operations-requires : tie.Need-write-operations-requires
 write-operations-requires c κs =
     let h = c .before .before .before .before .before .before .before in
     let s = h .before .before .before .before in
     ((s .pre .0 .0, started (c .before .before)), omega (arith, head-length h, s .pre .1))
-
-mul-place : tie.Need-mul-place
-mul-place c = search needs
-
-add-place : tie.Need-add-place
-add-place c = search needs
 
 -- the operations leave the buffer's length
 operations-length : (c : tie.After-write-operations) → (let s = c .before .before .before .before .before .before .before .before .before .before .before .before in
@@ -73,8 +69,8 @@ operations-length c =
     let os = operationsList (s .args .operations) in
     let recorded = withWidths sampleWidth (s .args .n) os (s .args .n) os in
     ap length (c .write-operations .ensures .1)
-    ∙ length-written (h .write-head .last .0) 8 (flatMap operationBytes recorded)
-    (omega (arith, length-records operationBytes 12 length-operation recorded, length-with-widths sampleWidth (s .args .n) os (s .args .n) os, head-length h, s .pre .1))
+    ∙ length-written (h .write-head .last .0) headLength (flatMap operationBytes recorded)
+    (omega (arith, length-records operationBytes operationLength length-operation recorded, length-with-widths sampleWidth (s .args .n) os (s .args .n) os, head-length h, s .pre .1))
     ∙ head-length h
 
 write-outputs-requires : tie.Need-write-outputs-requires
@@ -83,23 +79,20 @@ write-outputs-requires c κs =
     let h = g .before .before .before .before .before .before .before .before in
     let s = h .before .before .before .before in (
       outputs-writable (s .args .n) (operationsList (s .args .operations)) (g .write-operations .last .1 .0) (g .write-operations .ensures .0) (s .pre .0 .0) (outputsList (s .args .outputs)) (s .pre .0 .1),
-      omega (arith, operations-length g, h .before .before .count .ensures, s .pre .1),
+      (omega (arith, h .before .before .count .ensures, s .pre .0 .0 .few), omega (arith, operations-length g, h .before .before .count .ensures, s .pre .1)),
     )
 
 depth-of-requires : tie.Need-depth-of-requires
 depth-of-requires c κs = search needs
 
-cast-t14-2 : tie.Need-cast-t14-2
-cast-t14-2 c = search needs
+cast-t13-2 : tie.Need-cast-t13-2
+cast-t13-2 c = search needs
 
 count-requires-2 : tie.Need-count-requires-2
 count-requires-2 c κs = search needs
 
-mul-end : tie.Need-mul-end
-mul-end c = search needs
-
-add-end : tie.Need-add-end
-add-end c = search needs
+output-place-requires : tie.Need-output-place-requires
+output-place-requires c κs = search needs
 
 sub-write-totals : tie.Need-sub-write-totals
 sub-write-totals c = search needs
@@ -119,7 +112,8 @@ same-length c = search needs
 returns : tie.Need-returns
 returns c =
     let t = c .before .before in
-    let k = t .before .before in
+    let p = t .before .before in
+    let k = p .before in
     let d = k .before in
     let u = d .before .before .before in
     let o = u .before .before .before .before .before in
@@ -131,17 +125,17 @@ returns c =
     let outputs = outputsList (s .args .outputs) in
     let count = h .before .before .count in
     let table = o .write-operations .last .1 .0 in
-    let place : ℕ = 8 + 12 * count .result in
-    let end : ℕ = place + 9 * k .count2 .result in
+    let place : ℕ = operationPlace headLength (count .result) in
+    let end = p .output-place .result in
     let after : List ℕ = u .write-outputs .last .0 in (
       d .depth-of .ensures,
       netlist-written (recordedNetlist sampleWidth (s .args .m) n os outputs) buffer (h .write-head .last .0) (o .write-operations .last .0) after (t .write-totals .last .0) place end
-          (omega (arith, count .ensures, length-with-widths sampleWidth n os n os)) (omega (arith, k .count2 .ensures, length-map outputs (outputWithWidth sampleWidth n os)))
-          (omega (arith, count .ensures, k .count2 .ensures, s .pre .1))
-          (h .write-head .ensures ∙ ap (λ (x : ℕ). headBytes (record { m = s .args .m; n = n; operations = x }) ++ drop 8 buffer) (count .ensures))
+          (omega (arith, count .ensures, length-with-widths sampleWidth n os n os)) (omega (arith, p .output-place .ensures, count .ensures, k .count2 .ensures .0, length-with-widths sampleWidth n os n os, length-map outputs (outputWithWidth sampleWidth n os)))
+          (omega (arith, p .output-place .ensures, count .ensures, k .count2 .ensures .0, s .pre .1))
+          (h .write-head .ensures ∙ ap (λ (x : ℕ). headBytes (record { m = s .args .m; n = n; operations = x }) ++ drop headLength buffer) (count .ensures))
           (o .write-operations .ensures .1)
           (u .write-outputs .ensures ∙ ap (λ (l : List Output). written (o .write-operations .last .0) place (flatMap outputBytes l)) (table-widths n os table (o .write-operations .ensures .0) outputs (s .pre .0 .1)))
-          (t .write-totals .ensures ∙ ap₂ (λ (x y : ℕ). totalsBytes (record { operations = x; depth = y }) ++ drop 8 (take (length after - end) (drop end after))) (count .ensures) (d .depth-of .ensures)),
+          (t .write-totals .ensures ∙ ap₂ (λ (x y : ℕ). totalsBytes (record { operations = x; depth = y }) ++ drop totalsLength (take (length after - end) (drop end after))) (count .ensures) (d .depth-of .ensures)),
     )
 
 pub write-netlist-spec : {M : Type 1} → statement M
@@ -149,19 +143,16 @@ write-netlist-spec =
     tie.close
     (tie.spec
     count-requires
-    cast-t14
+    cast-t13
     write-head-requires
     blank-forms-requires
     start-forms-requires
     write-operations-requires
-    mul-place
-    add-place
     write-outputs-requires
     depth-of-requires
-    cast-t14-2
+    cast-t13-2
     count-requires-2
-    mul-end
-    add-end
+    output-place-requires
     sub-write-totals
     part-write-totals-start
     part-write-totals-end

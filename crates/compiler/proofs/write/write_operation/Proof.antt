@@ -6,7 +6,8 @@ use mathlib.Core.Path.{_≡_, sym, ap, subst, _∙_}
 use mathlib.Core.List.{List, _++_}
 use lib.IntN.{ℤ}
 use lib.ListN.{drop}
-use Rattle.layout.specs.Records.{operationBytes}
+use Rattle.limits.specs.Limits.{sampleWidth}
+use Rattle.layout.specs.Records.{operationLength, operationBytes}
 use Rattle.width.specs.Width.{width}
 use Rattle.width.specs.Table.{row, operationRow, SmallRange}
 use Rattle.compilation.specs.Compile.{withWidth}
@@ -28,7 +29,7 @@ row-is c =
 entry-width-requires : tie.Need-entry-width-requires
 entry-width-requires c κs =
     let s = c .before .before .before .before in
-    (s .pre .0, ((omega arith, omega arith), subst (SmallRange 16) (sym (row-is (c .before))) (s .pre .1 .1 .0 .1)))
+    (s .pre .0, ((omega arith, omega arith), subst (SmallRange sampleWidth) (sym (row-is (c .before))) (s .pre .1 .1 .0 .1)))
 
 write-operation-requires : tie.Need-write-operation-requires
 write-operation-requires c κs = search needs
@@ -43,7 +44,7 @@ returns c =
     let s = a .before .before .before in (
       a .append-form .ensures,
       c .before .before .write-operation .ensures
-          ∙ ap (λ (w : ℕ). operationBytes (withWidth w (s .args .o)) ++ drop 12 (s .args .buffer .now)) (g .entry-width .ensures ∙ ap (width 16) (row-is a)),
+          ∙ ap (λ (w : ℕ). operationBytes (withWidth w (s .args .o)) ++ drop operationLength (s .args .buffer .now)) (g .entry-width .ensures ∙ ap (width sampleWidth) (row-is a)),
     )
 
 pub write-operation-spec : {M : Type 1} → statement M

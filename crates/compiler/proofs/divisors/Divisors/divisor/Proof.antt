@@ -2,14 +2,15 @@
 use Prim.Native.Nat.{_<_}
 use native.Mathlib.Omega.{arith}
 use lib.ListN.{length-map}
+use Rattle.limits.specs.Limits.{maxDivisors}
 use Rattle.compiler.specs.Lists.{divisorsList, noDivisor}
 use Rattle.eliminate.proofs.Filled.{within, filled-at}
 use Rattle.compiler.proofs.divisors.Divisors.divisor.Statement.{statement}
 use Rattle.compiler.proofs.divisors.Divisors.divisor.Tie as tie
 
-inside : (c : tie.Start) → c .args .i < 252
+inside : (c : tie.Start) → c .args .i < maxDivisors
 unfolding divisorsList
-inside c = within (c .args .t1 .list) (c .args .t1 .count) 252 (simp length-map at (c .good .0 .1 .1 .0 .1 .0 .1)) (c .args .i) (c .pre)
+inside c = within (c .args .t1 .list) (c .args .t1 .count) maxDivisors (simp length-map at (c .good .0 .1 .1 .0 .1 .0 .1)) (c .args .i) (c .pre)
 
 mul-result : tie.Need-mul-result
 mul-result c = omega (arith, inside c)
@@ -21,7 +22,7 @@ returns : tie.Need-returns
 unfolding divisorsList
 returns c =
     let s = c .before in
-    filled-at (s .args .t1 .list) (s .args .t1 .count) 252 (simp length-map at (s .good .0 .1 .1 .0 .1 .0 .1)) (s .args .i) noDivisor (s .pre)
+    filled-at (s .args .t1 .list) (s .args .t1 .count) maxDivisors (simp length-map at (s .good .0 .1 .1 .0 .1 .0 .1)) (s .args .i) noDivisor (s .pre)
 
 pub divisor-spec : {M : Type 1} → statement M
 divisor-spec = tie.close (tie.spec mul-result element-copy-out-result returns)

@@ -2,14 +2,15 @@
 use Prim.Native.Nat.{_<_}
 use native.Mathlib.Omega.{arith}
 use lib.ListN.{length-map}
+use Rattle.limits.specs.Limits.{maxRows}
 use Rattle.compiler.specs.Lists.{outputsList, noOutput}
 use Rattle.eliminate.proofs.Filled.{within, filled-at}
 use Rattle.compiler.proofs.outputs.Outputs.output.Statement.{statement}
 use Rattle.compiler.proofs.outputs.Outputs.output.Tie as tie
 
-inside : (c : tie.Start) → c .args .i < 8
+inside : (c : tie.Start) → c .args .i < maxRows
 unfolding outputsList
-inside c = within (c .args .t1 .list) (c .args .t1 .count) 8 (simp length-map at (c .good .0 .1 .1 .0 .1 .0 .1)) (c .args .i) (c .pre)
+inside c = within (c .args .t1 .list) (c .args .t1 .count) maxRows (simp length-map at (c .good .0 .1 .1 .0 .1 .0 .1)) (c .args .i) (c .pre)
 
 mul-result : tie.Need-mul-result
 mul-result c = omega (arith, inside c)
@@ -21,7 +22,7 @@ returns : tie.Need-returns
 unfolding outputsList
 returns c =
     let s = c .before in
-    filled-at (s .args .t1 .list) (s .args .t1 .count) 8 (simp length-map at (s .good .0 .1 .1 .0 .1 .0 .1)) (s .args .i) noOutput (s .pre)
+    filled-at (s .args .t1 .list) (s .args .t1 .count) maxRows (simp length-map at (s .good .0 .1 .1 .0 .1 .0 .1)) (s .args .i) noOutput (s .pre)
 
 pub output-spec : {M : Type 1} → statement M
 output-spec = tie.close (tie.spec mul-result element-copy-out-result returns)

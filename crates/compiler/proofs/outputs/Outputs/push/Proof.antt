@@ -2,14 +2,15 @@
 use Prim.Native.Nat.{_<_}
 use native.Mathlib.Omega.{arith}
 use lib.ListN.{length-map}
+use Rattle.limits.specs.Limits.{maxRows}
 use Rattle.compiler.specs.Lists.{outputsList}
 use Rattle.eliminate.proofs.Filled.{room, filled-more}
 use Rattle.compiler.proofs.outputs.Outputs.push.Statement.{statement}
 use Rattle.compiler.proofs.outputs.Outputs.push.Tie as tie
 
-has-room : (c : tie.Start) → c .args .self .count < 8
+has-room : (c : tie.Start) → c .args .self .count < maxRows
 unfolding outputsList
-has-room c = room (c .args .self .list) (c .args .self .count) 8 (simp length-map at (c .good .0 .1 .1 .0 .1 .0 .1)) (c .pre)
+has-room c = room (c .args .self .list) (c .args .self .count) maxRows (simp length-map at (c .good .0 .1 .1 .0 .1 .0 .1)) (c .pre)
 
 mul-o : tie.Need-mul-o
 mul-o c = omega (arith, has-room c)
@@ -22,7 +23,7 @@ add-outputs c = omega (arith, has-room c)
 
 returns : tie.Need-returns
 unfolding outputsList
-returns c = filled-more (c .args .self .list) (c .args .self .count) 8 (simp length-map at (c .good .0 .1 .1 .0 .1 .0 .1)) (c .args .o) (has-room c)
+returns c = filled-more (c .args .self .list) (c .args .self .count) maxRows (simp length-map at (c .good .0 .1 .1 .0 .1 .0 .1)) (c .args .o) (has-room c)
 
 pub push-spec : {M : Type 1} → statement M
 push-spec = tie.close (tie.spec mul-o element-set-from-o add-outputs returns)
