@@ -10,7 +10,7 @@ use Rattle.limits.specs.Limits.{maxOperations}
 use Rattle.elimination.specs.Rows.{plainCount}
 use Rattle.elimination.specs.Elimination.{smallestFirst, elimination}
 use Rattle.eliminate.specs.State.{rowsTerms, Ready}
-use Rattle.eliminate.specs.Step.{answerOf}
+use Rattle.eliminate.specs.Step.{stepAnswerOf}
 use Rattle.compiler.specs.Lists.{divisorsList}
 use Rattle.compiler.proofs.EndLaws.{restOf, withRest, rest-start, rest-none, rest-stops, Moved, rest-moves}
 use Rattle.compiler.proofs.eliminated.eliminate_rows.Statement.{statement}
@@ -40,16 +40,16 @@ returns : tie.Need-returns Inv-loop μ-loop
 returns c =
     let g = c .before .before in
     let L = g .before .before in
-    rest-stops (L .loop .symbol) (divisorsList (L .loop .divisors)) (L .loop .replacements) (rowsTerms (L .loop .left)) (answerOf (g .step .result)) (g .step .ensures) (c .if1 .taken)
+    rest-stops (L .loop .symbol) (divisorsList (L .loop .divisors)) (L .loop .replacements) (rowsTerms (L .loop .left)) (stepAnswerOf (g .step .result)) (g .step .ensures) (c .if1 .taken)
     ∙ L .loop .inv .4
 
 moved : (c : tie.Else1 Inv-loop μ-loop) → (let g = c .before .before in
     let L = g .before .before in
-    Moved (L .loop .symbol) (divisorsList (L .loop .divisors)) (L .loop .replacements) (rowsTerms (L .loop .left)) (answerOf (g .step .result)))
+    Moved (L .loop .symbol) (divisorsList (L .loop .divisors)) (L .loop .replacements) (rowsTerms (L .loop .left)) (stepAnswerOf (g .step .result)))
 moved c =
     let g = c .before .before in
     let L = g .before .before in
-    rest-moves (L .loop .symbol) (divisorsList (L .loop .divisors)) (L .loop .replacements) (rowsTerms (L .loop .left)) (answerOf (g .step .result)) (g .step .ensures) (c .if1 .left)
+    rest-moves (L .loop .symbol) (divisorsList (L .loop .divisors)) (L .loop .replacements) (rowsTerms (L .loop .left)) (stepAnswerOf (g .step .result)) (g .step .ensures) (c .if1 .left)
 
 push-requires : tie.Need-push-requires Inv-loop μ-loop
 push-requires c κs = let L = c .before .before .before .before .before in omega (arith, moved (c .before) .two, moved (c .before) .plain, L .loop .inv .2)
