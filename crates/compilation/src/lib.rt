@@ -1,5 +1,5 @@
-// Document 01, "Netlist and board machine": the netlist of a matrix and what compile answers. Rests on elimination, layout and width; the
-// laws of the netlist stand in proofs/.
+// Document 01, "Netlist and board machine": the netlist of a matrix and what compile answers. Rests on limits, elimination, layout and
+// width; the laws of the netlist stand in proofs/.
 ghost use mathlib.Core.Path.{_≡_};
 ghost use Rattle.compilation.specs.Compile.{compileRefused};
 

@@ -1,4 +1,4 @@
-// Document 01, "Elimination": the divisors made so far, oldest first, by value. Rests on `elimination`.
+// Document 01, "Elimination": the divisors made so far, oldest first, by value. Rests on `limits` and `elimination`.
 // The fields are private, so that nothing makes such a list but its methods.
 use elimination::Divisor;
 use limits::MAX_DIVISORS;

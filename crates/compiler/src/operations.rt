@@ -1,4 +1,4 @@
-// Document 01, "Netlist and board machine": the operations of a netlist in order, by value. Rests on `layout`.
+// Document 01, "Netlist and board machine": the operations of a netlist in order, by value. Rests on `limits` and `layout`.
 // The fields are private, so that nothing makes such a list but its methods.
 use layout::Operation;
 use limits::MAX_OPERATIONS;

@@ -1,5 +1,5 @@
 // Document 01, "Netlist and board machine": the netlist's records, written one after another into the lent buffer, with widths and
-// depth. Rests on `layout` and `width`.
+// depth. Rests on `limits`, `layout` and `width`.
 use super::operations::Operations;
 use super::outputs::Outputs;
 use layout::Head;
