@@ -11,7 +11,10 @@ use lib.ListN.{length, getD, set, take, drop, drop-of-length-le, length-set, len
 use lib.Seq.{sets, sets-eq, drop-cons, getD-take, take-suc, take-suc-set}
 use lib.Signed.{mag}
 use borrow.Author.Tests.{eq-eqb, ne-eqb}
+use Rattle.limits.specs.Limits.{maxShift, sampleWidth, maxWidth, symbols}
 use Rattle.layout.specs.Records.{Netlist}
+use Rattle.layout.specs.Places.{headAt, operationAt, outputAt, firstRecords, firstOperations, operationsIn, outputsIn}
+use Rattle.layout.proofs.FirstRecords.{length-first, getD-first}
 use Rattle.width.specs.Machine.{entryAt, operationValue, machine, outputValue, entryForm}
 use Rattle.width.specs.Width.{Within, Samples, width}
 use Rattle.width.specs.Table.{Small, valueAppended}
@@ -22,18 +25,16 @@ use Rattle.width.proofs.BoundLaws.{entry-small}
 use Rattle.width.proofs.TableLaws.{value-appended}
 use Rattle.reading.specs.declared.ReadAnswer.{ReadAnswer}
 use Rattle.reading.specs.declared.RunAnswer.{RunAnswer}
-use Rattle.reading.specs.Read.{Reading, refused, accepted, readNetlist, answerOf, readAnswer, headAt, operationAt, outputAt}
+use Rattle.reading.specs.Read.{Reading, refused, accepted, readNetlist, readAnswerOf, readAnswer}
 use Rattle.reading.specs.Run.{ran, countsAnswer, runAnswer, netlistOutputs, runOutputs}
-use Rattle.reading.specs.Tests.{firstRecords, operationsIn, outputsIn}
-use Rattle.checker.specs.Tables.{operationsBefore, NetlistRead}
-use Rattle.reading.proofs.FirstRecords.{length-first, getD-first}
+use Rattle.checker.specs.Tables.{NetlistRead}
 use Rattle.checker.proofs.NetlistLaws.{head-limits, operation-there, output-there}
 
--- ---- a 16-bit sample lies within 16 bits
+-- ---- what 16 bits hold lies within a sample's width
 
-pub sample-within : (z : ℤ) → mag z < 2 ^ 15 → Within 16 z
-sample-within (pos a) h = between-within 16 (pos a) (record { above = omega (arith, positive-is (pos a)); below = omega (arith, negative-is (pos a)) })
-sample-within (negsuc a) h = between-within 16 (negsuc a) (record { above = omega (arith, positive-is (negsuc a)); below = omega (arith, negative-is (negsuc a)) })
+pub sample-within : (z : ℤ) → mag z < 2 ^ 15 → Within sampleWidth z
+sample-within (pos a) h = between-within sampleWidth (pos a) (record { above = omega (arith, positive-is (pos a)); below = omega (arith, negative-is (pos a)) })
+sample-within (negsuc a) h = between-within sampleWidth (negsuc a) (record { above = omega (arith, positive-is (negsuc a)); below = omega (arith, negative-is (negsuc a)) })
 
 -- ---- values
 
@@ -48,11 +49,11 @@ more-records fields k (suc d) =
 
 -- the table after k operations on the samples
 pub record BoardAt (b : List ℕ) (n k : ℕ) (xs values : List ℤ) : Type 0 where
-  pub room : length values ≡ 512
-  pub of-width : Samples 16 n xs
-  pub held : take (n + k) values ≡ machine xs (operationsBefore b k)
+  pub room : length values ≡ symbols
+  pub of-width : Samples sampleWidth n xs
+  pub held : take (n + k) values ≡ machine xs (firstOperations b k)
 
-pub board-started : (b : List ℕ) (n : ℕ) (values : List ℤ) → length values ≡ 512 → Samples 16 n (take n values) → BoardAt b n 0 (take n values) values
+pub board-started : (b : List ℕ) (n : ℕ) (values : List ℤ) → length values ≡ symbols → Samples sampleWidth n (take n values) → BoardAt b n 0 (take n values) values
 unfolding machine firstRecords
 board-started b n values room X = let e : n + 0 ≡ n = omega arith in record { room = room; of-width = X; held = rw e refl }
 
@@ -63,34 +64,34 @@ sample-next samples values j z h k e t =
     take-suc-set values j z k ∙ ap₂ (λ (l : List ℤ) (y : ℤ). l ++ (y ∷ [])) t e ∙ sym (take-suc samples j (pos 0) h)
 
 module _ (b : List ℕ) (N : NetlistRead b) where
-  narrow-before : (k symbol : ℕ) → k ≤ headAt b .operations → symbol < headAt b .n + k → width 16 (entryForm (headAt b .n) (operationsBefore b k) symbol) ≤ 40
+  narrow-before : (k symbol : ℕ) → k ≤ headAt b .operations → symbol < headAt b .n + k → width sampleWidth (entryForm (headAt b .n) (firstOperations b k) symbol) ≤ maxWidth
   narrow-before k symbol l h =
       let m = more-records (operationAt b) k (headAt b .operations - k) in
       let c : k + (headAt b .operations - k) ≡ headAt b .operations = omega arith in
-      let all : operationsIn b ≡ operationsBefore b k ++ m .0 = ap (firstRecords (operationAt b)) (sym c) ∙ m .1 in
-      let kept = entry-form-keeps (headAt b .n) (operationsBefore b k) (m .0) symbol (omega (arith, length-first (operationAt b) k)) in
-      subst (λ cs. width 16 cs ≤ 40) (ap (λ os. entryForm (headAt b .n) os symbol) all ∙ kept) (N .narrow symbol (omega arith))
+      let all : operationsIn b ≡ firstOperations b k ++ m .0 = ap (firstOperations b) (sym c) ∙ m .1 in
+      let kept = entry-form-keeps (headAt b .n) (firstOperations b k) (m .0) symbol (omega (arith, length-first (operationAt b) k)) in
+      subst (λ cs. width sampleWidth cs ≤ maxWidth) (ap (λ os. entryForm (headAt b .n) os symbol) all ∙ kept) (N .narrow symbol (omega arith))
 
-  module _ (xs : List ℤ) (X : Samples 16 (headAt b .n) xs) (k : ℕ) (values : List ℤ) (e : take (headAt b .n + k) values ≡ machine xs (operationsBefore b k)) where
-    pub value-small : k ≤ headAt b .operations → (symbol shift : ℕ) → symbol < headAt b .n + k → shift ≤ 15 → Small (entryAt values symbol) shift
+  module _ (xs : List ℤ) (X : Samples sampleWidth (headAt b .n) xs) (k : ℕ) (values : List ℤ) (e : take (headAt b .n + k) values ≡ machine xs (firstOperations b k)) where
+    pub value-small : k ≤ headAt b .operations → (symbol shift : ℕ) → symbol < headAt b .n + k → shift ≤ maxShift → Small (entryAt values symbol) shift
     value-small l symbol shift h s =
         subst (λ z. Small z shift) (sym (sym (getD-take (headAt b .n + k) values symbol (pos 0) h) ∙ ap (λ v. entryAt v symbol) e))
-        (entry-small 16 (headAt b .n) 40 15 (operationsBefore b k) symbol shift (narrow-before k symbol l h) s (omega arith) xs X)
+        (entry-small sampleWidth (headAt b .n) maxWidth maxShift (firstOperations b k) symbol shift (narrow-before k symbol l h) s (omega arith) xs X)
 
-    pub values-next : k < headAt b .operations → length values ≡ 512
-        → take (headAt b .n + suc k) (valueAppended values (operationAt b k) (headAt b .n + k)) ≡ machine xs (operationsBefore b (suc k))
+    pub values-next : k < headAt b .operations → length values ≡ symbols
+        → take (headAt b .n + suc k) (valueAppended values (operationAt b k) (headAt b .n + k)) ≡ machine xs (firstOperations b (suc k))
     unfolding firstRecords
     values-next l room =
         let L = operation-there b N k l .1 in
         let H = head-limits b N in
         let s : headAt b .n + suc k ≡ suc (headAt b .n + k) = omega arith in
-        rw s (value-appended xs (operationsBefore b k) (operationAt b k) values (headAt b .n + k) e (omega (arith, room, H .columns-most, H .few)) (L .first-earlier) (L .second-earlier))
+        rw s (value-appended xs (firstOperations b k) (operationAt b k) values (headAt b .n + k) e (omega (arith, room, H .limits .columns-most, H .few)) (L .first-earlier) (L .second-earlier))
 
   module _ (m : ℕ) (same : m ≡ headAt b .n) (xs : List ℤ) (k : ℕ) (values : List ℤ) (B : BoardAt b m k xs values) where
     abbrev board : BoardAt b (headAt b .n) k xs values
     board = subst (λ x. BoardAt b x k xs values) same B
 
-    pub board-small : k ≤ headAt b .operations → (symbol shift : ℕ) → symbol < m + k → shift ≤ 15 → Small (entryAt values symbol) shift
+    pub board-small : k ≤ headAt b .operations → (symbol shift : ℕ) → symbol < m + k → shift ≤ maxShift → Small (entryAt values symbol) shift
     board-small l symbol shift h s = value-small xs (board .of-width) k values (board .held) l symbol shift (omega (arith, same, h)) s
 
     pub board-next : k < headAt b .operations → BoardAt b m (suc k) xs (valueAppended values (operationAt b k) (m + k))
@@ -133,7 +134,7 @@ module _ (b : List ℕ) (N : NetlistRead b) where
       output-same values entries (outputAt b (length (operationsIn b)) i) (kept (outputAt b (length (operationsIn b)) i .symbol) (below i h)))
     where
       below : (i : ℕ) → i < headAt b .m → outputAt b (length (operationsIn b)) i .symbol < headAt b .n + headAt b .operations
-      below i h = rw (length-first (operationAt b) (headAt b .operations)) (output-there b N i h .1 .symbol)
+      below i h = rw (length-first (operationAt b) (headAt b .operations)) (output-there b N i h .1 .operand .symbol)
 
       kept : (symbol : ℕ) → symbol < headAt b .n + headAt b .operations → entryAt values symbol ≡ entryAt entries symbol
       kept symbol h = sym (getD-take (headAt b .n + headAt b .operations) values symbol (pos 0) h) ∙ ap (λ v. entryAt v symbol) e
@@ -168,7 +169,7 @@ abbrev filledBy : List ℤ → List ℤ → Bool → Bool → List ℤ
 filledBy outputs results s t = elim s [ false ↦ outputs | true ↦ elim t [ false ↦ outputs | true ↦ results ] ]
 
 module _ (b : List ℕ) (samples outputs : List ℤ) where
-  refuses : (x : Reading Netlist) (a : ReadAnswer) → a ≡ answerOf x → (a .refusal ≡ 0 → ⊥)
+  refuses : (x : Reading Netlist) (a : ReadAnswer) → a ≡ readAnswerOf x → (a .refusal ≡ 0 → ⊥)
       → (ran (a .refusal) (a .place) ≡ afterNetlist (length samples) (length outputs) x) × (outputs ≡ outputsAfter samples outputs x)
   refuses (refused r p) a e h = (rw e refl, refl)
   refuses (accepted net) a e h = absurd (h (ap (λ (t : ReadAnswer). t .refusal) e))

@@ -12,19 +12,19 @@ use lib.Seq.{drop-cons}
 use borrow.Author.Tests.{eq-eqb, ne-eqb}
 use Rattle.layout.specs.declared.Operation.{Operation}
 use Rattle.layout.specs.declared.Output.{Output}
-use Rattle.layout.specs.Matrix.{matrixRefusal, rows, columns, matrix, coefficientAt, coefficientsFrom}
+use Rattle.layout.specs.Matrix.{matrixRefusal, rows, columns, coefficientPlace, matrix, coefficientAt, coefficientsFrom}
 use Rattle.layout.specs.Records.{Netlist}
+use Rattle.layout.specs.Places.{headAt, operationAt, outputAt, operationsIn, outputsIn}
 use Rattle.width.specs.Machine.{outputForm}
 use Rattle.layout.proofs.MatrixRefusal.{AcceptedMatrix}
 use Rattle.layout.proofs.MatrixRows.{matrix-row, coefficient-there}
+use Rattle.layout.proofs.FirstRecords.{length-first, getD-first}
 use Rattle.width.specs.Table.{eachColumnFrom, outputRow}
 use Rattle.reading.specs.declared.CheckAnswer.{CheckAnswer}
 use Rattle.reading.specs.declared.ReadAnswer.{ReadAnswer}
-use Rattle.reading.specs.Read.{Reading, refused, accepted, readNetlist, answerOf, readAnswer, headAt, operationAt, outputAt}
+use Rattle.reading.specs.Read.{Reading, refused, accepted, readNetlist, readAnswerOf, readAnswer}
 use Rattle.reading.specs.Check.{checked, sameInteger, sameRow, rowsAnswer, matchAnswer, checkAnswer}
-use Rattle.reading.specs.Tests.{operationsIn, outputsIn}
 use Rattle.checker.specs.Tables.{NetlistHeld, RowReady}
-use Rattle.reading.proofs.FirstRecords.{length-first, getD-first}
 use Rattle.checker.proofs.HeldLaws.{output-row-held, output-coefficient-small}
 use Rattle.checker.proofs.NetlistLaws.{output-there}
 
@@ -102,7 +102,7 @@ module _ (b m : List ℕ) (forms : List ℤ) (H : NetlistHeld b forms) (i : ℕ)
       → sameRow (outputRow forms (headAt b .n) (outputAt b (headAt b .operations) i)) (coefficientsFrom m (i * headAt b .n) (headAt b .n))
       ≡ sameRow (outputForm (headAt b .n) (operationsIn b) (getD (outputsIn b) i (outputAt b 0 0))) (getD (matrix m) i [])
   row-compared l e = ap₂ sameRow
-      (output-row-held b (headAt b .n) (headAt b .operations) forms (H .forms-held) (outputAt b (headAt b .operations) i) (output-there b (H .read) i h .1)
+      (output-row-held b (headAt b .n) (headAt b .operations) forms (H .forms-held) (outputAt b (headAt b .operations) i) (output-there b (H .read) i h .1 .operand)
       ∙ ap (outputForm (headAt b .n) (operationsIn b)) (sym output-is))
       (ap (λ (c : ℕ). coefficientsFrom m (i * c) c) (sym e) ∙ sym (matrix-row m i l))
     where
@@ -112,8 +112,8 @@ module _ (b m : List ℕ) (forms : List ℤ) (H : NetlistHeld b forms) (i : ℕ)
 
   pub row-ready : AcceptedMatrix m → i < rows m → columns m ≡ headAt b .n → RowReady m (i * headAt b .n) (headAt b .n) forms (outputAt b (headAt b .operations) i)
   row-ready a l e = record {
-    there = λ j k. subst (λ (c : ℕ). 7 + 2 * (i * c + j) < length m) e (coefficient-there m a i j l (omega (arith, e, k)));
-    small = output-coefficient-small b (headAt b .n) (headAt b .operations) forms (H .forms-held) (outputAt b (headAt b .operations) i) (output-there b (H .read) i h .1);
+    there = λ j k. subst (λ (c : ℕ). coefficientPlace (i * c + j) + 1 < length m) e (coefficient-there m a i j l (omega (arith, e, k)));
+    small = output-coefficient-small b (headAt b .n) (headAt b .operations) forms (H .forms-held) (outputAt b (headAt b .operations) i) (output-there b (H .read) i h .1 .operand);
   }
 
 -- ---- the answer
@@ -143,7 +143,7 @@ module _ (m b : List ℕ) where
     behind-matrix : afterNetlist m (readNetlist b) ≡ checkAnswer m b
     behind-matrix = ap (λ (r : ℕ). afterMatrix r (afterNetlist m (readNetlist b))) (sym due) ∙ by-parts
 
-    refuses : (x : Reading Netlist) (a : ReadAnswer) → a ≡ answerOf x → (a .refusal ≡ 0 → ⊥)
+    refuses : (x : Reading Netlist) (a : ReadAnswer) → a ≡ readAnswerOf x → (a .refusal ≡ 0 → ⊥)
         → checked (a .refusal) (a .place) ≡ afterNetlist m x
     refuses (refused r p) a e h = rw e refl
     refuses (accepted net) a e h = absurd (h (ap (λ (t : ReadAnswer). t .refusal) e))

@@ -1,6 +1,6 @@
 -- The whole netlist: which refusal and which place read returns, part by part, and what stands in the bytes where it accepts.
 -- Assumes nothing.
-use Prim.Native.Nat.{ℕ, zero, suc, _+_, _*_, _≤_, _<_}
+use Prim.Native.Nat.{ℕ, zero, suc, _+_, _≤_, _<_}
 use mathlib.Core.Path.{_≡_, refl, sym, ap, _∙_}
 use mathlib.Core.Bool.{Bool, true, false}
 use mathlib.Core.List.{List}
@@ -9,14 +9,15 @@ use lib.ListN.{length}
 use borrow.Author.Tests.{lt-ltb, le-ltb}
 use Rattle.layout.specs.declared.Head.{Head}
 use Rattle.layout.specs.declared.Totals.{Totals}
-use Rattle.layout.specs.Records.{Netlist}
+use Rattle.layout.specs.Records.{Netlist, headLength, totalsLength}
+use Rattle.layout.specs.Places.{operationPlace, outputPlace, totalsPlace, headAt, operationAt, outputAt, totalsAt, firstRecords, firstOutputs, operationsIn, outputsIn, totalsPlaceIn, netlistIn}
+use Rattle.layout.proofs.FirstRecords.{length-first}
+use Rattle.width.specs.Netlist.{HeadLimits, OperationLimits, OutputLimits}
 use Rattle.checker.specs.declared.read.Refusal.{Refusal}
-use Rattle.reading.specs.Read.{Reading, refused, accepted, recordRefusal, headAt, headRefusal, operationPlace, operationAt, operationRefusal, outputPlace, outputAt, outputRefusal, totalsAt, totalsRefusal, readOperations, readOutputs, leftoverRefusal, readNetlist, readRefused, readAccepted, answerOf, readAnswer}
-use Rattle.reading.specs.Exact.{HeadLimits, OperationLimits, OutputLimits}
-use Rattle.reading.specs.Tests.{firstRecords, operationsIn, outputsIn, totalsPlace, netlistIn}
+use Rattle.reading.specs.Read.{Reading, refused, accepted, headRefusal, operationRefusal, outputRefusal, totalsRefusal, readOperations, readOutputs, leftoverRefusal, readNetlist, readRefused, readAccepted, readAnswerOf, readAnswer}
+use Rattle.reading.specs.Exact.{readLimits}
 use Rattle.checker.specs.Tables.{refusalOf, NetlistRead}
-use Rattle.reading.proofs.FirstRecords.{length-first}
-use Rattle.checker.proofs.RecordLaws.{head-due, operation-due, output-due, none-refused}
+use Rattle.checker.proofs.RecordLaws.{head-due, operation-due, output-due, none-refused, operationRecord, outputRecord}
 
 -- ---- which part is refused
 
@@ -55,39 +56,39 @@ module _ (b : List ℕ) where
       outputs-decline r p e = rw (due, all, e) refl
 
       module _ (rows : readOutputs b (headAt b) (operationsIn b) ≡ accepted (outputsIn b)) where
-        pub totals-decline : (totalsRefusal b (totalsPlace b) (headAt b) (operationsIn b) ≡ 0 → ⊥)
-            → readNetlist b ≡ refused (totalsRefusal b (totalsPlace b) (headAt b) (operationsIn b)) (totalsPlace b)
+        pub totals-decline : (totalsRefusal b (totalsPlaceIn b) (headAt b) (operationsIn b) ≡ 0 → ⊥)
+            → readNetlist b ≡ refused (totalsRefusal b (totalsPlaceIn b) (headAt b) (operationsIn b)) (totalsPlaceIn b)
         unfolding readNetlist
-        totals-decline z = go (totalsRefusal b (totalsPlace b) (headAt b) (operationsIn b)) refl
+        totals-decline z = go (totalsRefusal b (totalsPlaceIn b) (headAt b) (operationsIn b)) refl
           where
-            go : (r : ℕ) → totalsRefusal b (totalsPlace b) (headAt b) (operationsIn b) ≡ r
-                → readNetlist b ≡ refused (totalsRefusal b (totalsPlace b) (headAt b) (operationsIn b)) (totalsPlace b)
+            go : (r : ℕ) → totalsRefusal b (totalsPlaceIn b) (headAt b) (operationsIn b) ≡ r
+                → readNetlist b ≡ refused (totalsRefusal b (totalsPlaceIn b) (headAt b) (operationsIn b)) (totalsPlaceIn b)
             go zero e = absurd (z e)
             go (suc r) e = rw (due, all, rows, e) refl
 
-        module _ (right : totalsRefusal b (totalsPlace b) (headAt b) (operationsIn b) ≡ 0) where
-          pub leftover : totalsPlace b + 8 < length b → readNetlist b ≡ refused 12 (totalsPlace b + 8)
+        module _ (right : totalsRefusal b (totalsPlaceIn b) (headAt b) (operationsIn b) ≡ 0) where
+          pub leftover : totalsPlaceIn b + totalsLength < length b → readNetlist b ≡ refused 12 (totalsPlaceIn b + totalsLength)
           unfolding readNetlist
-          leftover h = rw (due, all, rows, right, some-left b (totalsPlace b + 8) h) refl
+          leftover h = rw (due, all, rows, right, some-left b (totalsPlaceIn b + totalsLength) h) refl
 
-          pub all-accepted : length b ≤ totalsPlace b + 8 → readNetlist b ≡ accepted (netlistIn b)
+          pub all-accepted : length b ≤ totalsPlaceIn b + totalsLength → readNetlist b ≡ accepted (netlistIn b)
           unfolding readNetlist
-          all-accepted h = rw (due, all, rows, right, none-left b (totalsPlace b + 8) h) refl
+          all-accepted h = rw (due, all, rows, right, none-left b (totalsPlaceIn b + totalsLength) h) refl
 
-  pub totals-place : totalsPlace b ≡ 8 + 12 * headAt b .operations + 9 * headAt b .m
+  pub totals-place : totalsPlaceIn b ≡ totalsPlace headLength (headAt b .operations) (headAt b .m)
   totals-place = omega (arith, length-first (operationAt b) (headAt b .operations), length-first (outputAt b (length (operationsIn b))) (headAt b .m))
 
-  pub place-is : (h : Head) → h ≡ headAt b → 8 + 12 * h .operations + 9 * h .m ≡ totalsPlace b
-  place-is h e = ap (λ (x : Head). 8 + 12 * x .operations + 9 * x .m) e ∙ sym totals-place
+  pub place-is : (h : Head) → h ≡ headAt b → totalsPlace headLength (h .operations) (h .m) ≡ totalsPlaceIn b
+  place-is h e = ap (λ (x : Head). totalsPlace headLength (x .operations) (x .m)) e ∙ sym totals-place
 
   -- ---- the answer
 
-  pub answer-fields : (h : Head) (t : Totals) → h ≡ headAt b → t ≡ totalsAt b (totalsPlace b)
+  pub answer-fields : (h : Head) (t : Totals) → h ≡ headAt b → t ≡ totalsAt b (totalsPlaceIn b)
       → record { refusal = 0; place = 0; m = h .m; n = h .n; operations = h .operations; depth = t .depth } ≡ readAccepted (netlistIn b)
   answer-fields h t e f = rw (e, f) refl
 
   by-refusal : (x : Reading Netlist) (r : Refusal) → r ≡ refusalOf x → (r .refusal ≡ 0 → ⊥)
-      → readRefused (r .refusal) (r .place) ≡ answerOf x
+      → readRefused (r .refusal) (r .place) ≡ readAnswerOf x
   by-refusal (refused s p) r e h = rw e refl
   by-refusal (accepted net) r e h = absurd (h (ap (λ (t : Refusal). t .refusal) e))
 
@@ -97,27 +98,27 @@ module _ (b : List ℕ) where
 
   pub answer-accepted : (net : Netlist) → readNetlist b ≡ accepted net → readAccepted net ≡ readAnswer b
   unfolding readAnswer
-  answer-accepted net e = sym (ap answerOf e)
+  answer-accepted net e = sym (ap readAnswerOf e)
 
   -- ---- what stands in the bytes
 
   module _ (N : NetlistRead b) where
-    pub head-limits : HeadLimits (headAt b)
+    pub head-limits : HeadLimits readLimits (headAt b)
     head-limits = head-due b (N .head-due) .1
 
     pub operation-there : (k : ℕ) → k < headAt b .operations
-        → (recordRefusal b (operationPlace k) 3 12 ≡ 0) × OperationLimits (headAt b .n + k) (operationAt b k)
+        → (operationRecord b k ≡ 0) × OperationLimits readLimits (headAt b .n + k) (operationAt b k)
     unfolding firstRecords
     operation-there k h = operation-due b (headAt b .n) k
-        (none-refused (operationRefusal b (headAt b .n)) operationPlace (operationAt b) (headAt b .operations) 0 (operationsIn b) (N .operations-read) k (omega arith) (omega arith))
+        (none-refused (operationRefusal b (headAt b .n)) (operationPlace headLength) (operationAt b) (headAt b .operations) 0 (operationsIn b) (N .operations-read) k (omega arith) (omega arith))
 
-    output-passed : (i : ℕ) → i < headAt b .m → outputRefusal b (headAt b .n) (operationsIn b) (length (firstRecords (outputAt b (length (operationsIn b))) i)) ≡ 0
+    output-passed : (i : ℕ) → i < headAt b .m → outputRefusal b (headAt b .n) (operationsIn b) (length (firstOutputs b (length (operationsIn b)) i)) ≡ 0
     unfolding firstRecords
-    output-passed i h = none-refused (λ outputs. outputRefusal b (headAt b .n) (operationsIn b) (length outputs)) (outputPlace (length (operationsIn b)))
+    output-passed i h = none-refused (λ outputs. outputRefusal b (headAt b .n) (operationsIn b) (length outputs)) (outputPlace headLength (length (operationsIn b)))
         (outputAt b (length (operationsIn b))) (headAt b .m) 0 (outputsIn b) (N .outputs-read) i (omega arith) (omega arith)
 
     pub output-there : (i : ℕ) → i < headAt b .m
-        → (recordRefusal b (outputPlace (headAt b .operations) i) 4 9 ≡ 0)
-        × OutputLimits (headAt b .n + headAt b .operations) (outputAt b (headAt b .operations) i)
+        → (outputRecord b (headAt b .operations) i ≡ 0)
+        × OutputLimits readLimits (headAt b .n + headAt b .operations) (outputAt b (headAt b .operations) i)
     output-there i h = output-due b (headAt b .n) (headAt b .operations) (operationsIn b) (length-first (operationAt b) (headAt b .operations)) i
         (rw (length-first (outputAt b (length (operationsIn b))) i) at (output-passed i h))

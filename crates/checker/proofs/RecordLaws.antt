@@ -10,19 +10,24 @@ use native.Mathlib.Decide.{decLt}
 use lib.Dec.{eqb, leb}
 use lib.ListN.{length, drop, length-take, length-drop}
 use borrow.Author.Tests.{eq-eqb, ne-eqb}
+use Rattle.limits.specs.Limits.{maxWidth}
 use Rattle.layout.specs.declared.Head.{Head}
 use Rattle.layout.specs.declared.Operation.{Operation}
 use Rattle.layout.specs.declared.step.StepNumbers.{StepNumbers}
 use Rattle.layout.specs.Bytes.{word}
+use Rattle.layout.specs.Records.{headKind, headLength, operationKind, operationLength, outputKind, outputLength, totalsKind, totalsLength}
+use Rattle.layout.specs.Places.{operationPlace, outputPlace, payloadOf, headAt, operationAt, outputAt, totalsAt, firstRecords, firstOperations}
 use Rattle.layout.specs.Step.{stepRefusal, stepNumbers, payloadAt}
-use Rattle.layout.proofs.Accepted.{not-refused, payload-accepted, numbers-refused, numbers-accepted}
+use Rattle.layout.proofs.Accepted.{not-refused, numbers-refused, numbers-accepted}
+use Rattle.layout.proofs.FirstRecords.{length-first}
+use Rattle.layout.proofs.InBytes.{payload-of}
+use Rattle.width.specs.Netlist.{HeadLimits, OperationLimits, OutputLimits, TotalsRight}
 use Rattle.checker.specs.declared.read.Refusal.{Refusal}
-use Rattle.reading.specs.Read.{Reading, refused, accepted, readRecords, recordRefusal, headAt, headInRange, headRefusal, operationPlace, operationAt, operationInRange, operationWidth, operationRefusal, outputPlace, outputAt, outputInRange, outputWidth, outputRefusal, totalsAt, totalsRight, totalsRefusal, widthRight}
-use Rattle.reading.specs.Exact.{HeadLimits, OperationLimits, OutputLimits, TotalsRight}
-use Rattle.reading.specs.Tests.{Whole, Expected, recordTests, firstRecords}
-use Rattle.checker.specs.Tables.{operationsBefore, refusalOf}
+use Rattle.reading.specs.Read.{Reading, refused, accepted, readRecords, recordRefusal, headInRange, headRefusal, operationInRange, operationWidth, operationRefusal, outputInRange, outputWidth, outputRefusal, totalsRight, totalsRefusal, widthRight}
+use Rattle.reading.specs.Exact.{readLimits}
+use Rattle.reading.specs.Tests.{Whole, Expected, recordTests}
+use Rattle.checker.specs.Tables.{refusalOf}
 use Rattle.reading.proofs.TestLaws.{RefusedBy, read-more, read-stops}
-use Rattle.reading.proofs.FirstRecords.{length-first}
 use Rattle.reading.proofs.Conditions.{and-says, same-says, at-most-says, head-says, operation-says, output-says, totals-says}
 use Rattle.reading.proofs.ReadTests.{record-refused}
 
@@ -33,9 +38,9 @@ pub fails : {P : Type 0} (t : Bool) → (t ≡ true) ↔ P → (P → ⊥) → t
 fails true is h = absurd (h (is .0 refl))
 fails false is h = refl
 
--- the test of a recorded width says that it is the width, which is at most 40
-pub width-says : (recorded w : ℕ) → (widthRight recorded w ≡ true) ↔ ((recorded ≡ w) × (w ≤ 40))
-width-says recorded w = and-says (eqb recorded w) (leb w 40) (same-says recorded w) (at-most-says w 40)
+-- the test of a recorded width says that it is the width, which is at most the widest
+pub width-says : (recorded w : ℕ) → (widthRight recorded w ≡ true) ↔ ((recorded ≡ w) × (w ≤ maxWidth))
+width-says recorded w = and-says (eqb recorded w) (leb w maxWidth) (same-says recorded w) (at-most-says w maxWidth)
 
 -- a record's refusal r, and then one test of its fields, or two
 abbrev pub oneTest : ℕ → ℕ → Bool → ℕ
@@ -123,39 +128,62 @@ module _ (b : List ℕ) (place kind size : ℕ) where
         step-expected h = one-passes 8 (stepRefusal b place) (eqb (word b (place + 2)) kind && eqb (word b place) size) accepts
             (simp (eq-eqb (word b (place + 2)) kind (sym kind-is ∙ same), eq-eqb (word b place) size (omega (arith, next-is, h))))
 
-  -- the payload of a record that is due has the length of its kind
-  pub payload-length : 4 ≤ size → recordRefusal b place kind size ≡ 0 → length (payloadAt b place) ≡ size - 4
-  payload-length enough e = go (record-refused b place kind size enough)
-    where
-      go : RefusedBy (recordTests b place kind size) (recordRefusal b place kind size) place → length (payloadAt b place) ≡ size - 4
-      go (inr f) = absurd (omega (arith, f .0, e))
-      go (inl a) =
-          let w : Whole b place = a .1 .0 in
-          let x : Expected b place kind size = a .1 .1 .0 in
-          let step : stepRefusal b place ≡ 0 = sym (not-refused b place (record { header = w .header; whole = w .within; least = omega (arith, x .its-length) })) in
-          ap length (sym (payload-accepted b place step))
-          ∙ omega (arith, length-take (word b place - 4) (drop (place + 4) b), length-drop (place + 4) b, w .within, w .header, x .its-length)
+  -- the payload of a record that is due is that of its kind's length
+  module _ (enough : 4 ≤ size) (e : recordRefusal b place kind size ≡ 0) where
+    passed : Whole b place × Expected b place kind size
+    passed = go (record-refused b place kind size enough)
+      where
+        go : RefusedBy (recordTests b place kind size) (recordRefusal b place kind size) place → Whole b place × Expected b place kind size
+        go (inr f) = absurd (omega (arith, f .0, e))
+        go (inl a) = (a .1 .0, a .1 .1 .0)
+
+    pub payload-is : payloadAt b place ≡ payloadOf b place size
+    payload-is =
+        let w = passed .0 in
+        let x = passed .1 in
+        payload-of b place size (sym (not-refused b place (record { header = w .header; whole = w .within; least = omega (arith, x .its-length) }))) (x .its-length)
+
+    pub payload-length : length (payloadAt b place) ≡ size - 4
+    payload-length =
+        let w = passed .0 in
+        let x = passed .1 in
+        ap length payload-is ∙ omega (arith, length-take (size - 4) (drop (place + 4) b), length-drop (place + 4) b, w .within, w .header, x .its-length)
+
+-- ---- the refusals of a netlist's records before their fields are tested
+
+abbrev pub headRecord : List ℕ → ℕ
+headRecord b = recordRefusal b 0 headKind headLength
+
+abbrev pub operationRecord : List ℕ → ℕ → ℕ
+operationRecord b k = recordRefusal b (operationPlace headLength k) operationKind operationLength
+
+-- output i behind so many operations
+abbrev pub outputRecord : List ℕ → ℕ → ℕ → ℕ
+outputRecord b operations i = recordRefusal b (outputPlace headLength operations i) outputKind outputLength
+
+abbrev pub totalsRecord : List ℕ → ℕ → ℕ
+totalsRecord b place = recordRefusal b place totalsKind totalsLength
 
 -- ---- the head
 
 module _ (b : List ℕ) where
-  head-tests : oneTest 9 (recordRefusal b 0 2 8) (headInRange (headAt b)) ≡ headRefusal b
+  head-tests : oneTest 9 (headRecord b) (headInRange (headAt b)) ≡ headRefusal b
   unfolding headRefusal
   head-tests = refl
 
-  pub head-stops : (recordRefusal b 0 2 8 ≡ 0 → ⊥) → recordRefusal b 0 2 8 ≡ headRefusal b
-  head-stops h = stays-one 9 (recordRefusal b 0 2 8) (headInRange (headAt b)) h ∙ head-tests
+  pub head-stops : (headRecord b ≡ 0 → ⊥) → headRecord b ≡ headRefusal b
+  head-stops h = stays-one 9 (headRecord b) (headInRange (headAt b)) h ∙ head-tests
 
-  module _ (due : recordRefusal b 0 2 8 ≡ 0) where
+  module _ (due : headRecord b ≡ 0) where
     pub head-outside : headInRange (headAt b) ≡ false → 9 ≡ headRefusal b
-    head-outside h = one-fails 9 (recordRefusal b 0 2 8) (headInRange (headAt b)) due h ∙ head-tests
+    head-outside h = one-fails 9 (headRecord b) (headInRange (headAt b)) due h ∙ head-tests
 
     pub head-accepted : headInRange (headAt b) ≡ true → 0 ≡ headRefusal b
-    head-accepted h = one-passes 9 (recordRefusal b 0 2 8) (headInRange (headAt b)) due h ∙ head-tests
+    head-accepted h = one-passes 9 (headRecord b) (headInRange (headAt b)) due h ∙ head-tests
 
-  pub head-due : headRefusal b ≡ 0 → (recordRefusal b 0 2 8 ≡ 0) × HeadLimits (headAt b)
+  pub head-due : headRefusal b ≡ 0 → (headRecord b ≡ 0) × HeadLimits readLimits (headAt b)
   head-due e =
-      let p = one-passed 9 (recordRefusal b 0 2 8) (headInRange (headAt b)) (omega arith) (head-tests ∙ e) in
+      let p = one-passed 9 (headRecord b) (headInRange (headAt b)) (omega arith) (head-tests ∙ e) in
       (p .0, head-says (headAt b) .0 (p .1))
 
 -- ---- operation k behind the k operations before it
@@ -165,41 +193,41 @@ module _ (b : List ℕ) (n k : ℕ) where
   inRange = operationInRange (n + k) (operationAt b k)
 
   abbrev right : Bool
-  right = widthRight (operationAt b k .width) (operationWidth n (operationsBefore b k) (operationAt b k))
+  right = widthRight (operationAt b k .width) (operationWidth n (firstOperations b k) (operationAt b k))
 
-  operation-tests : twoTests (recordRefusal b (operationPlace k) 3 12) (operationInRange (n + k) (operationAt b k))
-      (widthRight (operationAt b k .width) (operationWidth n (operationsBefore b k) (operationAt b k)))
-      ≡ operationRefusal b n (operationsBefore b k)
+  operation-tests : twoTests (operationRecord b k) (operationInRange (n + k) (operationAt b k))
+      (widthRight (operationAt b k .width) (operationWidth n (firstOperations b k) (operationAt b k)))
+      ≡ operationRefusal b n (firstOperations b k)
   unfolding operationRefusal
-  operation-tests = ap (λ (j : ℕ). twoTests (recordRefusal b (operationPlace j) 3 12) (operationInRange (n + j) (operationAt b j))
-      (widthRight (operationAt b j .width) (operationWidth n (operationsBefore b k) (operationAt b j)))) (sym (length-first (operationAt b) k))
+  operation-tests = ap (λ (j : ℕ). twoTests (operationRecord b j) (operationInRange (n + j) (operationAt b j))
+      (widthRight (operationAt b j .width) (operationWidth n (firstOperations b k) (operationAt b j)))) (sym (length-first (operationAt b) k))
 
-  pub operation-stops : (recordRefusal b (operationPlace k) 3 12 ≡ 0 → ⊥) → recordRefusal b (operationPlace k) 3 12 ≡ operationRefusal b n (operationsBefore b k)
-  operation-stops h = stays-two (recordRefusal b (operationPlace k) 3 12) inRange right h ∙ operation-tests
+  pub operation-stops : (operationRecord b k ≡ 0 → ⊥) → operationRecord b k ≡ operationRefusal b n (firstOperations b k)
+  operation-stops h = stays-two (operationRecord b k) inRange right h ∙ operation-tests
 
-  module _ (due : recordRefusal b (operationPlace k) 3 12 ≡ 0) where
-    pub operation-outside : operationInRange (n + k) (operationAt b k) ≡ false → 9 ≡ operationRefusal b n (operationsBefore b k)
-    operation-outside h = two-outside (recordRefusal b (operationPlace k) 3 12) inRange right due h ∙ operation-tests
+  module _ (due : operationRecord b k ≡ 0) where
+    pub operation-outside : operationInRange (n + k) (operationAt b k) ≡ false → 9 ≡ operationRefusal b n (firstOperations b k)
+    operation-outside h = two-outside (operationRecord b k) inRange right due h ∙ operation-tests
 
     module _ (inside : operationInRange (n + k) (operationAt b k) ≡ true) where
-      pub operation-wide : widthRight (operationAt b k .width) (operationWidth n (operationsBefore b k) (operationAt b k)) ≡ false
-          → 10 ≡ operationRefusal b n (operationsBefore b k)
-      operation-wide h = two-wide (recordRefusal b (operationPlace k) 3 12) inRange right due inside h ∙ operation-tests
+      pub operation-wide : widthRight (operationAt b k .width) (operationWidth n (firstOperations b k) (operationAt b k)) ≡ false
+          → 10 ≡ operationRefusal b n (firstOperations b k)
+      operation-wide h = two-wide (operationRecord b k) inRange right due inside h ∙ operation-tests
 
-      pub operation-accepted : widthRight (operationAt b k .width) (operationWidth n (operationsBefore b k) (operationAt b k)) ≡ true
-          → 0 ≡ operationRefusal b n (operationsBefore b k)
-      operation-accepted h = two-passes (recordRefusal b (operationPlace k) 3 12) inRange right due inside h ∙ operation-tests
+      pub operation-accepted : widthRight (operationAt b k .width) (operationWidth n (firstOperations b k) (operationAt b k)) ≡ true
+          → 0 ≡ operationRefusal b n (firstOperations b k)
+      operation-accepted h = two-passes (operationRecord b k) inRange right due inside h ∙ operation-tests
 
-  pub operation-due : operationRefusal b n (operationsBefore b k) ≡ 0 → (recordRefusal b (operationPlace k) 3 12 ≡ 0) × OperationLimits (n + k) (operationAt b k)
+  pub operation-due : operationRefusal b n (firstOperations b k) ≡ 0 → (operationRecord b k ≡ 0) × OperationLimits readLimits (n + k) (operationAt b k)
   operation-due e =
-      let p = two-passed (recordRefusal b (operationPlace k) 3 12) inRange right (operation-tests ∙ e) in
+      let p = two-passed (operationRecord b k) inRange right (operation-tests ∙ e) in
       (p .0, operation-says (n + k) (operationAt b k) .0 (p .1))
 
 -- ---- output i of a netlist of the operations os
 
 module _ (b : List ℕ) (n k : ℕ) (os : List Operation) (count : length os ≡ k) (i : ℕ) where
   abbrev outputTested : ℕ → ℕ
-  outputTested j = twoTests (recordRefusal b (outputPlace j i) 4 9) (outputInRange (n + j) (outputAt b j i)) (widthRight (outputAt b j i .width) (outputWidth n os (outputAt b j i)))
+  outputTested j = twoTests (outputRecord b j i) (outputInRange (n + j) (outputAt b j i)) (widthRight (outputAt b j i .width) (outputWidth n os (outputAt b j i)))
 
   output-tests : outputTested k ≡ outputRefusal b n os i
   unfolding outputRefusal
@@ -211,23 +239,23 @@ module _ (b : List ℕ) (n k : ℕ) (os : List Operation) (count : length os ≡
   abbrev outputRight : Bool
   outputRight = widthRight (outputAt b k i .width) (outputWidth n os (outputAt b k i))
 
-  pub output-stops : (recordRefusal b (outputPlace k i) 4 9 ≡ 0 → ⊥) → recordRefusal b (outputPlace k i) 4 9 ≡ outputRefusal b n os i
-  output-stops h = stays-two (recordRefusal b (outputPlace k i) 4 9) outputInside outputRight h ∙ output-tests
+  pub output-stops : (outputRecord b k i ≡ 0 → ⊥) → outputRecord b k i ≡ outputRefusal b n os i
+  output-stops h = stays-two (outputRecord b k i) outputInside outputRight h ∙ output-tests
 
-  module _ (due : recordRefusal b (outputPlace k i) 4 9 ≡ 0) where
+  module _ (due : outputRecord b k i ≡ 0) where
     pub output-outside : outputInRange (n + k) (outputAt b k i) ≡ false → 9 ≡ outputRefusal b n os i
-    output-outside h = two-outside (recordRefusal b (outputPlace k i) 4 9) outputInside outputRight due h ∙ output-tests
+    output-outside h = two-outside (outputRecord b k i) outputInside outputRight due h ∙ output-tests
 
     module _ (inside : outputInRange (n + k) (outputAt b k i) ≡ true) where
       pub output-wide : widthRight (outputAt b k i .width) (outputWidth n os (outputAt b k i)) ≡ false → 10 ≡ outputRefusal b n os i
-      output-wide h = two-wide (recordRefusal b (outputPlace k i) 4 9) outputInside outputRight due inside h ∙ output-tests
+      output-wide h = two-wide (outputRecord b k i) outputInside outputRight due inside h ∙ output-tests
 
       pub output-accepted : widthRight (outputAt b k i .width) (outputWidth n os (outputAt b k i)) ≡ true → 0 ≡ outputRefusal b n os i
-      output-accepted h = two-passes (recordRefusal b (outputPlace k i) 4 9) outputInside outputRight due inside h ∙ output-tests
+      output-accepted h = two-passes (outputRecord b k i) outputInside outputRight due inside h ∙ output-tests
 
-  pub output-due : outputRefusal b n os i ≡ 0 → (recordRefusal b (outputPlace k i) 4 9 ≡ 0) × OutputLimits (n + k) (outputAt b k i)
+  pub output-due : outputRefusal b n os i ≡ 0 → (outputRecord b k i ≡ 0) × OutputLimits readLimits (n + k) (outputAt b k i)
   output-due e =
-      let p = two-passed (recordRefusal b (outputPlace k i) 4 9) outputInside outputRight (output-tests ∙ e) in
+      let p = two-passed (outputRecord b k i) outputInside outputRight (output-tests ∙ e) in
       (p .0, output-says (n + k) (outputAt b k i) .0 (p .1))
 
 -- ---- totals
@@ -236,22 +264,22 @@ module _ (b : List ℕ) (place : ℕ) (h : Head) (os : List Operation) where
   abbrev totalsSame : Bool
   totalsSame = totalsRight h os (totalsAt b place)
 
-  totals-tests : oneTest 11 (recordRefusal b place 5 8) (totalsRight h os (totalsAt b place)) ≡ totalsRefusal b place h os
+  totals-tests : oneTest 11 (totalsRecord b place) (totalsRight h os (totalsAt b place)) ≡ totalsRefusal b place h os
   unfolding totalsRefusal
   totals-tests = refl
 
-  pub totals-stop : (recordRefusal b place 5 8 ≡ 0 → ⊥) → recordRefusal b place 5 8 ≡ totalsRefusal b place h os
-  totals-stop z = stays-one 11 (recordRefusal b place 5 8) totalsSame z ∙ totals-tests
+  pub totals-stop : (totalsRecord b place ≡ 0 → ⊥) → totalsRecord b place ≡ totalsRefusal b place h os
+  totals-stop z = stays-one 11 (totalsRecord b place) totalsSame z ∙ totals-tests
 
-  module _ (due : recordRefusal b place 5 8 ≡ 0) where
+  module _ (due : totalsRecord b place ≡ 0) where
     pub totals-differ : (TotalsRight h os (totalsAt b place) → ⊥) → 11 ≡ totalsRefusal b place h os
-    totals-differ z = one-fails 11 (recordRefusal b place 5 8) totalsSame due (fails totalsSame (totals-says h os (totalsAt b place)) z) ∙ totals-tests
+    totals-differ z = one-fails 11 (totalsRecord b place) totalsSame due (fails totalsSame (totals-says h os (totalsAt b place)) z) ∙ totals-tests
 
     pub totals-accepted : TotalsRight h os (totalsAt b place) → 0 ≡ totalsRefusal b place h os
-    totals-accepted r = one-passes 11 (recordRefusal b place 5 8) totalsSame due (totals-says h os (totalsAt b place) .1 r) ∙ totals-tests
+    totals-accepted r = one-passes 11 (totalsRecord b place) totalsSame due (totals-says h os (totalsAt b place) .1 r) ∙ totals-tests
 
-  pub totals-due : totalsRefusal b place h os ≡ 0 → recordRefusal b place 5 8 ≡ 0
-  totals-due e = one-passed 11 (recordRefusal b place 5 8) totalsSame (omega arith) (totals-tests ∙ e) .0
+  pub totals-due : totalsRefusal b place h os ≡ 0 → totalsRecord b place ≡ 0
+  totals-due e = one-passed 11 (totalsRecord b place) totalsSame (omega arith) (totals-tests ∙ e) .0
 
 -- ---- records of one kind, one after another
 

@@ -1,36 +1,33 @@
 -- Reading, checking and running a netlist: what the tables lent to their parts hold, and what these parts return.
 -- Assumes nothing.
-use Prim.Native.Nat.{ℕ, suc, _+_, _*_, _≤_, _<_}
+use Prim.Native.Nat.{ℕ, suc, _+_, _≤_, _<_}
 use mathlib.Core.Path.{_≡_}
 use mathlib.Core.List.{List}
 use lib.IntN.{ℤ}
 use lib.ListN.{length, take, replicate}
+use Rattle.limits.specs.Limits.{maxShift, sampleWidth, maxWidth, symbols}
 use Rattle.layout.specs.declared.Head.{Head}
 use Rattle.layout.specs.declared.Operation.{Operation}
 use Rattle.layout.specs.declared.Output.{Output}
-use Rattle.layout.specs.Matrix.{rows, columns, matrix}
+use Rattle.layout.specs.Matrix.{rows, columns, coefficientPlace, matrix}
+use Rattle.layout.specs.Places.{headAt, firstOperations, firstOutputs, operationsIn, outputsIn, totalsPlaceIn, netlistIn}
 use Rattle.width.specs.Machine.{entryAt, entryForm, depths}
 use Rattle.width.specs.Width.{Samples, width}
 use Rattle.width.specs.Table.{HoldsForms, Small, tableCoefficient}
 use Rattle.checker.specs.declared.read.Refusal.{Refusal}
-use Rattle.reading.specs.Read.{Reading, refused, accepted, sampleWidth, maxWidth, maxShift, headAt, headRefusal, operationAt, operationRefusal, outputAt, totalsRefusal, readOperations, readOutputs, readNetlist}
+use Rattle.reading.specs.Read.{Reading, refused, accepted, headRefusal, operationRefusal, totalsRefusal, readOperations, readOutputs, readNetlist}
 use Rattle.reading.specs.declared.CheckAnswer.{CheckAnswer}
 use Rattle.reading.specs.Check.{rowsAnswer}
-use Rattle.reading.specs.Tests.{firstRecords, operationsIn, outputsIn, totalsPlace, netlistIn}
 
--- the first k operations in the bytes
-abbrev pub operationsBefore : List ℕ → ℕ → List Operation
-operationsBefore bytes k = firstRecords (operationAt bytes) k
-
--- the coefficients of every entry after the first k operations, none of which is wider than 40
+-- the coefficients of every entry after the first k operations, none of which is wider than the widest
 pub record FormsHeld (bytes : List ℕ) (n k : ℕ) (forms : List ℤ) : Type 0 where
-  pub coefficients : HoldsForms n (operationsBefore bytes k) forms
-  pub narrow : (symbol : ℕ) → symbol < n + k → width sampleWidth (entryForm n (operationsBefore bytes k) symbol) ≤ maxWidth
+  pub coefficients : HoldsForms n (firstOperations bytes k) forms
+  pub narrow : (symbol : ℕ) → symbol < n + k → width sampleWidth (entryForm n (firstOperations bytes k) symbol) ≤ maxWidth
 
 -- the depths of these entries
 pub record DepthsHeld (bytes : List ℕ) (n k : ℕ) (table : List ℕ) : Type 0 where
-  pub room : length table ≡ 512
-  pub held : take (n + k) table ≡ depths (replicate n 0) (operationsBefore bytes k)
+  pub room : length table ≡ symbols
+  pub held : take (n + k) table ≡ depths (replicate n 0) (firstOperations bytes k)
 
 -- the refusal and the place of what was read, 0 at place 0 where it is accepted
 abbrev pub refusalOf : {A : Type 0} → Reading A → Refusal
@@ -39,33 +36,33 @@ refusalOf (accepted x) = record { refusal = 0; place = 0 }
 
 -- operation k: its refusal, and where there is none, the tables with its coefficients and its depth
 pub record OperationRead (bytes : List ℕ) (n k refusal : ℕ) (forms : List ℤ) (table : List ℕ) : Type 0 where
-  pub number : refusal ≡ operationRefusal bytes n (operationsBefore bytes k)
+  pub number : refusal ≡ operationRefusal bytes n (firstOperations bytes k)
   pub forms-held : refusal ≡ 0 → FormsHeld bytes n (suc k) forms
   pub depths-held : refusal ≡ 0 → DepthsHeld bytes n (suc k) table
 
 -- all operations
 pub record OperationsRead (bytes : List ℕ) (h : Head) (r : Refusal) (forms : List ℤ) (table : List ℕ) : Type 0 where
   pub answer : r ≡ refusalOf (readOperations bytes h)
-  pub all : r .refusal ≡ 0 → readOperations bytes h ≡ accepted (operationsBefore bytes (h .operations))
+  pub all : r .refusal ≡ 0 → readOperations bytes h ≡ accepted (firstOperations bytes (h .operations))
   pub forms-held : r .refusal ≡ 0 → FormsHeld bytes (h .n) (h .operations) forms
   pub depths-held : r .refusal ≡ 0 → DepthsHeld bytes (h .n) (h .operations) table
 
 -- all outputs of a netlist of the operations os
 pub record OutputsRead (bytes : List ℕ) (h : Head) (os : List Operation) (r : Refusal) : Type 0 where
   pub answer : r ≡ refusalOf (readOutputs bytes h os)
-  pub all : r .refusal ≡ 0 → readOutputs bytes h os ≡ accepted (firstRecords (outputAt bytes (length os)) (h .m))
+  pub all : r .refusal ≡ 0 → readOutputs bytes h os ≡ accepted (firstOutputs bytes (length os) (h .m))
 
 -- the head in the bytes is accepted
 pub record HeadRead (bytes : List ℕ) (h : Head) : Type 0 where
   pub due : headRefusal bytes ≡ 0
   pub fields : h ≡ headAt bytes
 
--- the netlist in the bytes is accepted, record by record, and no entry is wider than 40
+-- the netlist in the bytes is accepted, record by record, and no entry is wider than the widest
 pub record NetlistRead (bytes : List ℕ) : Type 0 where
   pub head-due : headRefusal bytes ≡ 0
   pub operations-read : readOperations bytes (headAt bytes) ≡ accepted (operationsIn bytes)
   pub outputs-read : readOutputs bytes (headAt bytes) (operationsIn bytes) ≡ accepted (outputsIn bytes)
-  pub totals-due : totalsRefusal bytes (totalsPlace bytes) (headAt bytes) (operationsIn bytes) ≡ 0
+  pub totals-due : totalsRefusal bytes (totalsPlaceIn bytes) (headAt bytes) (operationsIn bytes) ≡ 0
   pub netlist-read : readNetlist bytes ≡ accepted (netlistIn bytes)
   pub narrow : (symbol : ℕ) → symbol < headAt bytes .n + headAt bytes .operations
       → width sampleWidth (entryForm (headAt bytes .n) (operationsIn bytes) symbol) ≤ maxWidth
@@ -92,20 +89,20 @@ pub record SameSizes (matrixBytes : List ℕ) (h : Head) (m n operations : ℕ) 
 
 -- the coefficients of a matrix's row that begins at an index are there, and those of an output's entry are so small that none wraps
 pub record RowReady (matrixBytes : List ℕ) (index n : ℕ) (forms : List ℤ) (o : Output) : Type 0 where
-  pub there : (j : ℕ) → j < n → 7 + 2 * (index + j) < length matrixBytes
+  pub there : (j : ℕ) → j < n → coefficientPlace (index + j) + 1 < length matrixBytes
   pub small : (j : ℕ) → j < n → Small (tableCoefficient forms (o .symbol) j) (o .shift)
 
 -- 14: the matrix's rows against the outputs of the netlist in the bytes
 abbrev pub rowsMatched : List ℕ → List ℕ → CheckAnswer
 rowsMatched matrixBytes bytes = rowsAnswer (headAt bytes .n) (operationsIn bytes) 0 (outputsIn bytes) (matrix matrixBytes)
 
--- the table begins with the samples, which are of 16 bits
+-- the table begins with the samples, which are of their width
 pub record SamplesHeld (samples values : List ℤ) : Type 0 where
-  pub room : length values ≡ 512
+  pub room : length values ≡ symbols
   pub held : take (length samples) values ≡ samples
   pub of-width : Samples sampleWidth (length samples) samples
 
 -- board values by symbol, so small that no output wraps
 pub record BoardReady (bytes : List ℕ) (values : List ℤ) : Type 0 where
-  pub room : length values ≡ 512
+  pub room : length values ≡ symbols
   pub small : (symbol shift : ℕ) → symbol < headAt bytes .n + headAt bytes .operations → shift ≤ maxShift → Small (entryAt values symbol) shift

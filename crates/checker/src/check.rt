@@ -1,24 +1,29 @@
 // Document 01, "Reading, checking, running" and "Why a record was declined": checking a netlist against a matrix, refusals 1 to 5,
 // 7 to 12, 13, 14.
 use layout::Output;
+use layout::places::HEAD_LENGTH;
+use layout::places::output_place;
+use limits::MAX_COLUMNS;
 use reading::CheckAnswer;
+use width::FORMS_LENGTH;
 ghost use mathlib.Core.Path.{_≡_};
-ghost use Prim.Native.Nat.{_≤_, _<_};
+ghost use Prim.Native.Nat.{_*_, _≤_, _<_};
+ghost use Rattle.limits.specs.Limits.{maxRows, maxColumns, symbols};
 ghost use Rattle.layout.specs.Matrix.{matrixRefusal, coefficientsFrom};
+ghost use Rattle.layout.specs.Places.{headAt};
 ghost use Rattle.width.specs.Table.{outputRow};
-ghost use Rattle.reading.specs.Read.{headAt};
 ghost use Rattle.reading.specs.Check.{sameRow, checkAnswer};
 ghost use Rattle.checker.specs.Tables.{NetlistHeld, SameSizes, RowReady, rowsMatched};
 
 // Whether an output's coefficients are those of the matrix's row that begins at an index.
-fn same_row(matrix: &[u8], index: usize, o: Output, n: usize, forms: &[i64; 4096]) -> bool
-    requires { ⌜ (n ≤ 8) × ((index ≤ 64) × (o .symbol < 512)) ⌝ }
+fn same_row(matrix: &[u8], index: usize, o: Output, n: usize, forms: &[i64; FORMS_LENGTH]) -> bool
+    requires { ⌜ (n ≤ maxColumns) × ((index ≤ maxRows * maxColumns) × (o .symbol < symbols)) ⌝ }
     requires { ⌜ RowReady (now matrix) index n (now forms) o ⌝ }
     ensures { λ r. ⌜ r ≡ sameRow (outputRow (now (forms .entry)) n o) (coefficientsFrom (now (matrix .entry)) index n) ⌝ }
 {
     let symbol = o.symbol as usize;
     for j in 0..n {
-        let c = forms[symbol * 8 + j];
+        let c = forms[symbol * MAX_COLUMNS + j];
         let x = width::output_value(o.sign, c, o.shift);
         let y = layout::matrix::coefficient(matrix, index + j) as i64;
         if x != y {
@@ -35,7 +40,7 @@ fn rows_answer(
     m: usize,
     n: usize,
     operations: usize,
-    forms: &[i64; 4096],
+    forms: &[i64; FORMS_LENGTH],
 ) -> CheckAnswer
     requires { ⌜ NetlistHeld (now netlist) (now forms) ⌝ }
     requires { ⌜ matrixRefusal (now matrix) ≡ 0 ⌝ }
@@ -43,7 +48,7 @@ fn rows_answer(
     ensures { λ r. ⌜ r ≡ rowsMatched (now (matrix .entry)) (now (netlist .entry)) ⌝ }
 {
     for i in 0..m {
-        let o = super::read::output_at(netlist, 8 + 12 * operations + 9 * i);
+        let o = super::read::output_at(netlist, output_place(HEAD_LENGTH, operations, i));
         if !same_row(matrix, i * n, o, n, forms) {
             return CheckAnswer {
                 refusal: 14,

@@ -3,18 +3,33 @@ use layout::Head;
 use layout::Operation;
 use layout::Output;
 use layout::Totals;
+use layout::places::HEAD_KIND;
+use layout::places::HEAD_LENGTH;
+use layout::places::OPERATION_KIND;
+use layout::places::OPERATION_LENGTH;
+use layout::places::OUTPUT_KIND;
+use layout::places::OUTPUT_LENGTH;
+use layout::places::TOTALS_KIND;
+use layout::places::TOTALS_LENGTH;
+use layout::places::operation_place;
+use layout::places::output_place;
+use limits::MAX_OPERATIONS;
+use limits::MAX_WIDTH;
+use limits::SAMPLE_WIDTH;
+use limits::SYMBOLS;
 use reading::ReadAnswer;
 use term::Term;
+use width::FORMS_LENGTH;
 ghost use mathlib.Core.Path.{_≡_};
-ghost use Prim.Native.Nat.{_+_, _*_, _≤_, _<_, max};
-ghost use lib.IntN.{pos};
+ghost use Prim.Native.Nat.{_≤_, _<_};
 ghost use lib.ListN.{length, take};
+ghost use Rattle.limits.specs.Limits.{maxRows, maxColumns, maxOperations, symbols};
+ghost use Rattle.layout.specs.Records.{headKind, headLength, operationKind, operationLength, operationOf, outputKind, outputLength, outputOf, totalsKind, totalsLength};
+ghost use Rattle.layout.specs.Places.{payloadOf, headAt, totalsAt, firstOperations};
 ghost use Rattle.width.specs.Machine.{largest};
-ghost use Rattle.width.specs.Table.{filled};
-ghost use Rattle.reading.specs.Read.{recordRefusal, headInRange, headRefusal, headAt, operationInRange, outputInRange, outputRefusal, totalsRefusal, widthRight, readAnswer};
-ghost use Rattle.layout.specs.Step.{payloadAt};
-ghost use Rattle.layout.specs.Records.{operationOf, outputOf, totalsOf};
-ghost use Rattle.checker.specs.Tables.{operationsBefore, FormsHeld, DepthsHeld, OperationRead, OperationsRead, OutputsRead, HeadRead, NetlistHeld, RecordsRead};
+ghost use Rattle.width.specs.Table.{filled, formsLength};
+ghost use Rattle.reading.specs.Read.{recordRefusal, headInRange, headRefusal, operationInRange, outputInRange, outputRefusal, totalsRefusal, widthRight, readAnswer};
+ghost use Rattle.checker.specs.Tables.{FormsHeld, DepthsHeld, OperationRead, OperationsRead, OutputsRead, HeadRead, NetlistHeld, RecordsRead};
 
 // A refusal and its place; 0 at place 0 is none.
 pub(crate) struct Refusal {
@@ -42,7 +57,7 @@ fn record_refusal(bytes: &[u8], place: usize, kind: u16, size: usize) -> u8
 }
 
 fn head_at(bytes: &[u8]) -> Head
-    requires { ⌜ recordRefusal (now bytes) 0 2 8 ≡ 0 ⌝ }
+    requires { ⌜ recordRefusal (now bytes) 0 headKind headLength ≡ 0 ⌝ }
     ensures { λ r. ⌜ r ≡ headAt (now (bytes .entry)) ⌝ }
 {
     let payload = layout::step::payload(bytes, 0);
@@ -50,24 +65,24 @@ fn head_at(bytes: &[u8]) -> Head
 }
 
 pub(crate) fn operation_at(bytes: &[u8], place: usize) -> Operation
-    requires { ⌜ recordRefusal (now bytes) place 3 12 ≡ 0 ⌝ }
-    ensures { λ r. ⌜ r ≡ operationOf (payloadAt (now (bytes .entry)) place) ⌝ }
+    requires { ⌜ recordRefusal (now bytes) place operationKind operationLength ≡ 0 ⌝ }
+    ensures { λ r. ⌜ r ≡ operationOf (payloadOf (now (bytes .entry)) place operationLength) ⌝ }
 {
     let payload = layout::step::payload(bytes, place);
     layout::read::read_operation(payload)
 }
 
 pub(crate) fn output_at(bytes: &[u8], place: usize) -> Output
-    requires { ⌜ recordRefusal (now bytes) place 4 9 ≡ 0 ⌝ }
-    ensures { λ r. ⌜ r ≡ outputOf (payloadAt (now (bytes .entry)) place) ⌝ }
+    requires { ⌜ recordRefusal (now bytes) place outputKind outputLength ≡ 0 ⌝ }
+    ensures { λ r. ⌜ r ≡ outputOf (payloadOf (now (bytes .entry)) place outputLength) ⌝ }
 {
     let payload = layout::step::payload(bytes, place);
     layout::read::read_output(payload)
 }
 
 fn totals_at(bytes: &[u8], place: usize) -> Totals
-    requires { ⌜ recordRefusal (now bytes) place 5 8 ≡ 0 ⌝ }
-    ensures { λ r. ⌜ r ≡ totalsOf (payloadAt (now (bytes .entry)) place) ⌝ }
+    requires { ⌜ recordRefusal (now bytes) place totalsKind totalsLength ≡ 0 ⌝ }
+    ensures { λ r. ⌜ r ≡ totalsAt (now (bytes .entry)) place ⌝ }
 {
     let payload = layout::step::payload(bytes, place);
     layout::read::read_totals(payload)
@@ -78,19 +93,10 @@ fn totals_at(bytes: &[u8], place: usize) -> Totals
 fn head_in_range(h: Head) -> bool
     ensures { λ r. ⌜ r ≡ headInRange h ⌝ }
 {
-    if h.m < 1 {
+    if limits::size_outside(h.m, h.n) {
         return false;
     }
-    if h.m > 8 {
-        return false;
-    }
-    if h.n < 1 {
-        return false;
-    }
-    if h.n > 8 {
-        return false;
-    }
-    if h.operations > 504 {
+    if h.operations as usize > MAX_OPERATIONS {
         return false;
     }
     true
@@ -146,14 +152,14 @@ fn output_in_range(o: Output, symbols: usize) -> bool
     true
 }
 
-// The recorded width is the width, which is at most 40.
+// The recorded width is the width, which is at most the widest.
 fn width_right(recorded: u8, width: u8) -> bool
     ensures { λ r. ⌜ r ≡ widthRight recorded width ⌝ }
 {
     if recorded != width {
         return false;
     }
-    if width > 40 {
+    if width > MAX_WIDTH {
         return false;
     }
     true
@@ -164,7 +170,7 @@ fn width_right(recorded: u8, width: u8) -> bool
 fn head_refusal(bytes: &[u8]) -> u8
     ensures { λ r. ⌜ r ≡ headRefusal (now (bytes .entry)) ⌝ }
 {
-    let refusal = record_refusal(bytes, 0, 2, 8);
+    let refusal = record_refusal(bytes, 0, HEAD_KIND, HEAD_LENGTH);
     if refusal != 0 {
         return refusal;
     }
@@ -182,15 +188,15 @@ fn next_operation(
     bytes: &[u8],
     n: usize,
     k: usize,
-    forms: &mut [i64; 4096],
-    depths: &mut [u16; 512],
+    forms: &mut [i64; FORMS_LENGTH],
+    depths: &mut [u16; SYMBOLS],
 ) -> u8
-    requires { ⌜ (n ≤ 8) × (k < 504) ⌝ }
+    requires { ⌜ (n ≤ maxColumns) × (k < maxOperations) ⌝ }
     requires { ⌜ FormsHeld (now bytes) n k (now forms) × DepthsHeld (now bytes) n k (now depths) ⌝ }
     ensures { λ r. ⌜ OperationRead (now (bytes .entry)) n k r (now (forms .exit)) (now (depths .exit)) ⌝ }
 {
-    let place = 8 + 12 * k;
-    let refusal = record_refusal(bytes, place, 3, 12);
+    let place = operation_place(HEAD_LENGTH, k);
+    let refusal = record_refusal(bytes, place, OPERATION_KIND, OPERATION_LENGTH);
     if refusal != 0 {
         return refusal;
     }
@@ -200,7 +206,7 @@ fn next_operation(
         return 9;
     }
     width::append_form(forms, o, symbol, n);
-    let width = width::entry_width(forms, symbol, n, 16);
+    let width = width::entry_width(forms, symbol, n, SAMPLE_WIDTH);
     if !width_right(o.width, width) {
         return 10;
     }
@@ -213,10 +219,10 @@ fn next_operation(
 fn read_operations(
     bytes: &[u8],
     head: Head,
-    forms: &mut [i64; 4096],
-    depths: &mut [u16; 512],
+    forms: &mut [i64; FORMS_LENGTH],
+    depths: &mut [u16; SYMBOLS],
 ) -> Refusal
-    requires { ⌜ (head .n ≤ 8) × (head .operations ≤ 504) ⌝ }
+    requires { ⌜ (head .n ≤ maxColumns) × (head .operations ≤ maxOperations) ⌝ }
     requires { ⌜ FormsHeld (now bytes) (head .n) 0 (now forms) × DepthsHeld (now bytes) (head .n) 0 (now depths) ⌝ }
     ensures { λ r. ⌜ OperationsRead (now (bytes .entry)) head r (now (forms .exit)) (now (depths .exit)) ⌝ }
 {
@@ -227,7 +233,7 @@ fn read_operations(
         if refusal != 0 {
             return Refusal {
                 refusal,
-                place: 8 + 12 * k,
+                place: operation_place(HEAD_LENGTH, k),
             };
         }
     }
@@ -240,13 +246,19 @@ fn read_operations(
 // ---- outputs
 
 // Output i of a netlist whose operations are read.
-fn output_refusal(bytes: &[u8], n: usize, operations: usize, i: usize, forms: &[i64; 4096]) -> u8
-    requires { ⌜ (n ≤ 8) × ((operations ≤ 504) × (i < 8)) ⌝ }
+fn output_refusal(
+    bytes: &[u8],
+    n: usize,
+    operations: usize,
+    i: usize,
+    forms: &[i64; FORMS_LENGTH],
+) -> u8
+    requires { ⌜ (n ≤ maxColumns) × ((operations ≤ maxOperations) × (i < maxRows)) ⌝ }
     requires { ⌜ FormsHeld (now bytes) n operations (now forms) ⌝ }
-    ensures { λ r. ⌜ r ≡ outputRefusal (now (bytes .entry)) n (operationsBefore (now (bytes .entry)) operations) i ⌝ }
+    ensures { λ r. ⌜ r ≡ outputRefusal (now (bytes .entry)) n (firstOperations (now (bytes .entry)) operations) i ⌝ }
 {
-    let place = 8 + 12 * operations + 9 * i;
-    let refusal = record_refusal(bytes, place, 4, 9);
+    let place = output_place(HEAD_LENGTH, operations, i);
+    let refusal = record_refusal(bytes, place, OUTPUT_KIND, OUTPUT_LENGTH);
     if refusal != 0 {
         return refusal;
     }
@@ -254,7 +266,7 @@ fn output_refusal(bytes: &[u8], n: usize, operations: usize, i: usize, forms: &[
     if !output_in_range(o, n + operations) {
         return 9;
     }
-    let width = width::output_width(forms, o, n, 16);
+    let width = width::output_width(forms, o, n, SAMPLE_WIDTH);
     if !width_right(o.width, width) {
         return 10;
     }
@@ -262,10 +274,10 @@ fn output_refusal(bytes: &[u8], n: usize, operations: usize, i: usize, forms: &[
 }
 
 // All outputs, one per row.
-fn read_outputs(bytes: &[u8], head: Head, forms: &[i64; 4096]) -> Refusal
-    requires { ⌜ (head .n ≤ 8) × ((head .m ≤ 8) × (head .operations ≤ 504)) ⌝ }
+fn read_outputs(bytes: &[u8], head: Head, forms: &[i64; FORMS_LENGTH]) -> Refusal
+    requires { ⌜ (head .n ≤ maxColumns) × ((head .m ≤ maxRows) × (head .operations ≤ maxOperations)) ⌝ }
     requires { ⌜ FormsHeld (now bytes) (head .n) (head .operations) (now forms) ⌝ }
-    ensures { λ r. ⌜ OutputsRead (now (bytes .entry)) head (operationsBefore (now (bytes .entry)) (head .operations)) r ⌝ }
+    ensures { λ r. ⌜ OutputsRead (now (bytes .entry)) head (firstOperations (now (bytes .entry)) (head .operations)) r ⌝ }
 {
     let n = head.n as usize;
     let operations = head.operations as usize;
@@ -275,7 +287,7 @@ fn read_outputs(bytes: &[u8], head: Head, forms: &[i64; 4096]) -> Refusal
         if refusal != 0 {
             return Refusal {
                 refusal,
-                place: 8 + 12 * operations + 9 * i,
+                place: output_place(HEAD_LENGTH, operations, i),
             };
         }
     }
@@ -288,23 +300,23 @@ fn read_outputs(bytes: &[u8], head: Head, forms: &[i64; 4096]) -> Refusal
 // ---- totals
 
 // The largest of so many depths.
-fn largest_depth(depths: &[u16; 512], symbols: usize) -> u16
-    requires { ⌜ (symbols ≤ 512) × (length (now depths) ≡ 512) ⌝ }
-    ensures { λ r. ⌜ r ≡ largest (take symbols (now (depths .entry))) ⌝ }
+fn largest_depth(depths: &[u16; SYMBOLS], count: usize) -> u16
+    requires { ⌜ (count ≤ symbols) × (length (now depths) ≡ symbols) ⌝ }
+    ensures { λ r. ⌜ r ≡ largest (take count (now (depths .entry))) ⌝ }
 {
     let mut depth: u16 = 0;
-    for i in 0..symbols {
+    for i in 0..count {
         depth = width::deeper(depth, depths[i]);
     }
     depth
 }
 
-fn totals_refusal(bytes: &[u8], place: usize, head: Head, depths: &[u16; 512]) -> u8
-    requires { ⌜ (head .n ≤ 8) × (head .operations ≤ 504) ⌝ }
+fn totals_refusal(bytes: &[u8], place: usize, head: Head, depths: &[u16; SYMBOLS]) -> u8
+    requires { ⌜ (head .n ≤ maxColumns) × (head .operations ≤ maxOperations) ⌝ }
     requires { ⌜ DepthsHeld (now bytes) (head .n) (head .operations) (now depths) ⌝ }
-    ensures { λ r. ⌜ r ≡ totalsRefusal (now (bytes .entry)) place head (operationsBefore (now (bytes .entry)) (head .operations)) ⌝ }
+    ensures { λ r. ⌜ r ≡ totalsRefusal (now (bytes .entry)) place head (firstOperations (now (bytes .entry)) (head .operations)) ⌝ }
 {
-    let refusal = record_refusal(bytes, place, 5, 8);
+    let refusal = record_refusal(bytes, place, TOTALS_KIND, TOTALS_LENGTH);
     if refusal != 0 {
         return refusal;
     }
@@ -323,9 +335,14 @@ fn totals_refusal(bytes: &[u8], place: usize, head: Head, depths: &[u16; 512]) -
 // ---- the whole netlist
 
 // All records behind the head, and nothing behind the totals.
-fn records(bytes: &[u8], head: Head, forms: &mut [i64; 4096], depths: &mut [u16; 512]) -> Refusal
+fn records(
+    bytes: &[u8],
+    head: Head,
+    forms: &mut [i64; FORMS_LENGTH],
+    depths: &mut [u16; SYMBOLS],
+) -> Refusal
     requires { ⌜ HeadRead (now bytes) head ⌝ }
-    requires { ⌜ (length (now forms) ≡ 4096) × (now depths ≡ filled 512 0) ⌝ }
+    requires { ⌜ (length (now forms) ≡ formsLength) × (now depths ≡ filled symbols 0) ⌝ }
     ensures { λ r. ⌜ RecordsRead (now (bytes .entry)) r (now (forms .exit)) ⌝ }
 {
     let n = head.n as usize;
@@ -338,15 +355,15 @@ fn records(bytes: &[u8], head: Head, forms: &mut [i64; 4096], depths: &mut [u16;
     if outputs.refusal != 0 {
         return outputs;
     }
-    let place = 8 + 12 * (head.operations as usize) + 9 * (head.m as usize);
+    let place = output_place(HEAD_LENGTH, head.operations as usize, head.m as usize);
     let refusal = totals_refusal(bytes, place, head, depths);
     if refusal != 0 {
         return Refusal { refusal, place };
     }
-    if bytes.len() > place + 8 {
+    if bytes.len() > place + TOTALS_LENGTH {
         return Refusal {
             refusal: 12,
-            place: place + 8,
+            place: place + TOTALS_LENGTH,
         };
     }
     Refusal {
@@ -356,8 +373,12 @@ fn records(bytes: &[u8], head: Head, forms: &mut [i64; 4096], depths: &mut [u16;
 }
 
 // Read, and where it accepts, the coefficients of every entry in the first table.
-pub(crate) fn netlist(bytes: &[u8], forms: &mut [i64; 4096], depths: &mut [u16; 512]) -> ReadAnswer
-    requires { ⌜ (length (now forms) ≡ 4096) × (now depths ≡ filled 512 0) ⌝ }
+pub(crate) fn netlist(
+    bytes: &[u8],
+    forms: &mut [i64; FORMS_LENGTH],
+    depths: &mut [u16; SYMBOLS],
+) -> ReadAnswer
+    requires { ⌜ (length (now forms) ≡ formsLength) × (now depths ≡ filled symbols 0) ⌝ }
     ensures { λ r. ⌜ (r ≡ readAnswer (now (bytes .entry))) × (r .refusal ≡ 0 → NetlistHeld (now (bytes .entry)) (now (forms .exit))) ⌝ }
 {
     let refusal = head_refusal(bytes);
@@ -369,7 +390,7 @@ pub(crate) fn netlist(bytes: &[u8], forms: &mut [i64; 4096], depths: &mut [u16; 
     if behind.refusal != 0 {
         return ReadAnswer::refused(behind.refusal, behind.place);
     }
-    let place = 8 + 12 * (head.operations as usize) + 9 * (head.m as usize);
+    let place = output_place(HEAD_LENGTH, head.operations as usize, head.m as usize);
     let totals = totals_at(bytes, place);
     ReadAnswer {
         refusal: 0,

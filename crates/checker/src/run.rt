@@ -1,19 +1,23 @@
 // Document 01, "Reading, checking, running" and "Why a record was declined": running a netlist on samples, refusals 7 to 12, 15, 16.
+use layout::places::HEAD_LENGTH;
+use layout::places::operation_place;
+use layout::places::output_place;
+use limits::SYMBOLS;
 use reading::RunAnswer;
 ghost use mathlib.Core.Path.{_≡_};
 ghost use mathlib.Core.List.{map};
 ghost use Prim.Native.Nat.{_+_, _≤_};
 ghost use lib.ListN.{length, take};
+ghost use Rattle.limits.specs.Limits.{maxColumns, sampleWidth, symbols};
+ghost use Rattle.layout.specs.Places.{headAt, operationsIn, outputsIn};
 ghost use Rattle.width.specs.Machine.{machine, outputValue};
 ghost use Rattle.width.specs.Width.{Samples};
-ghost use Rattle.reading.specs.Read.{headAt};
 ghost use Rattle.reading.specs.Run.{runAnswer, runOutputs};
-ghost use Rattle.reading.specs.Tests.{operationsIn, outputsIn};
 ghost use Rattle.checker.specs.Tables.{NetlistRead, SamplesHeld, BoardReady};
 
 // The samples, the first values of the board machine.
-fn start_values(samples: &[i16], values: &mut [i64; 512])
-    requires { ⌜ (length (now samples) ≤ 8) × (length (now values) ≡ 512) ⌝ }
+fn start_values(samples: &[i16], values: &mut [i64; SYMBOLS])
+    requires { ⌜ (length (now samples) ≤ maxColumns) × (length (now values) ≡ symbols) ⌝ }
     ensures { λ r. ⌜ SamplesHeld (now (samples .entry)) (now (values .exit)) ⌝ }
 {
     let n = samples.len();
@@ -23,14 +27,14 @@ fn start_values(samples: &[i16], values: &mut [i64; 512])
 }
 
 // The operations in order, each value at its symbol.
-fn run_operations(netlist: &[u8], n: usize, operations: usize, values: &mut [i64; 512])
+fn run_operations(netlist: &[u8], n: usize, operations: usize, values: &mut [i64; SYMBOLS])
     requires { ⌜ NetlistRead (now netlist) ⌝ }
     requires { ⌜ (n ≡ headAt (now netlist) .n) × (operations ≡ headAt (now netlist) .operations) ⌝ }
-    requires { ⌜ (length (now values) ≡ 512) × Samples 16 n (take n (now values)) ⌝ }
-    ensures { λ r. ⌜ (length (now (values .exit)) ≡ 512) × (take (n + operations) (now (values .exit)) ≡ machine (take n (now (values .entry))) (operationsIn (now (netlist .entry)))) ⌝ }
+    requires { ⌜ (length (now values) ≡ symbols) × Samples sampleWidth n (take n (now values)) ⌝ }
+    ensures { λ r. ⌜ (length (now (values .exit)) ≡ symbols) × (take (n + operations) (now (values .exit)) ≡ machine (take n (now (values .entry))) (operationsIn (now (netlist .entry)))) ⌝ }
 {
     for k in 0..operations {
-        let o = super::read::operation_at(netlist, 8 + 12 * k);
+        let o = super::read::operation_at(netlist, operation_place(HEAD_LENGTH, k));
         width::append_value(values, o, n + k);
     }
 }
@@ -40,7 +44,7 @@ fn fill_outputs(
     netlist: &[u8],
     m: usize,
     operations: usize,
-    values: &[i64; 512],
+    values: &[i64; SYMBOLS],
     outputs: &mut [i64],
 )
     requires { ⌜ NetlistRead (now netlist) ⌝ }
@@ -49,7 +53,7 @@ fn fill_outputs(
     ensures { λ r. ⌜ now (outputs .exit) ≡ map (outputValue (now (values .entry))) (outputsIn (now (netlist .entry))) ⌝ }
 {
     for i in 0..m {
-        let o = super::read::output_at(netlist, 8 + 12 * operations + 9 * i);
+        let o = super::read::output_at(netlist, output_place(HEAD_LENGTH, operations, i));
         let symbol = o.symbol as usize;
         let x = values[symbol];
         let y = width::output_value(o.sign, x, o.shift);

@@ -10,14 +10,15 @@ use lib.ListN.{length, getD, length-map}
 use lib.Seq.{ext-getD}
 use Rattle.layout.specs.Matrix.{matrixRefusal, matrix}
 use Rattle.layout.specs.Records.{Netlist}
+use Rattle.layout.specs.Places.{headAt, operationsIn, totalsPlaceIn, netlistIn}
 use Rattle.layout.proofs.LittleEndian.{AreBytes}
 use Rattle.layout.proofs.MatrixRows.{matrix-length}
 use Rattle.width.specs.Machine.{machine, outputValue, times}
-use Rattle.reading.specs.Read.{accepted, headAt}
+use Rattle.reading.specs.Read.{accepted}
 use Rattle.reading.specs.Check.{checked, checkAnswer}
 use Rattle.reading.specs.Run.{netlistOutputs}
 use Rattle.reading.specs.Exact.{IsNetlistBytes, Computes, ComputesRow, SameSize, IsNetlistOf, LowestRow}
-use Rattle.reading.specs.Tests.{Test, tested, AllPass, FirstFails, headTests, operationTests, outputTests, totalsTests, totalsPlace, operationsIn, firstTests, netlistIn, readTests, matrixTests, rowTests, checkTests}
+use Rattle.reading.specs.Tests.{Test, tested, AllPass, FirstFails, headTests, operationTests, outputTests, totalsTests, firstTests, readTests, matrixTests, rowTests, checkTests}
 use Rattle.reading.proofs.TestLaws.{RefusedBy, NumbersBelow, numbers-append, numbers-first, number-below, all-append, all-split, first-all, all-first, fails-split, fails-after, fails-not-all, fails-among}
 use Rattle.reading.proofs.ReadTests.{reading-accepted, reading-netlist}
 use Rattle.reading.proofs.ReadAccepts.{all-pass-netlist, reading-of}
@@ -147,7 +148,7 @@ read-numbers b =
     let os = operationsIn b in
     let operations = firstTests (operationTests b (h .n)) (h .operations) in
     let outputs = firstTests (outputTests b (h .n) os) (h .m) in
-    let totals = totalsTests b (totalsPlace b) h os in
+    let totals = totalsTests b (totalsPlaceIn b) h os in
     numbers-append 13 (headTests b) (operations ++ (outputs ++ totals)) (omega arith)
     (numbers-append 13 operations (outputs ++ totals) (numbers-first 13 (operationTests b (h .n)) (h .operations) (λ i. omega arith))
     (numbers-append 13 outputs totals (numbers-first 13 (outputTests b (h .n) os) (h .m) (λ i. omega arith)) (omega arith)))

@@ -1,8 +1,8 @@
 -- Check returns the number and the place of the first of its tests that fails.
 -- Assumes nothing.
-use Prim.Native.Nat.{ℕ, zero, suc, _+_, _*_, _<_, _≤_}
+use Prim.Native.Nat.{ℕ, zero, suc, _+_, _<_, _≤_}
 use mathlib.Core.Path.{_≡_, refl, sym, _∙_, ap}
-use mathlib.Core.Bool.{Bool, true, false, not, _&&_, _||_, true≢false}
+use mathlib.Core.Bool.{Bool, true, false, not, _&&_, true≢false}
 use mathlib.Core.Logic.{_↔_, inl, inr}
 use mathlib.Core.List.{List, [], _∷_, _++_, map}
 use native.Mathlib.Omega.{arith}
@@ -11,19 +11,22 @@ use lib.IntN.{ℤ, pos}
 use lib.ListN.{length, getD, drop, drop-of-length-le}
 use lib.Seq.{drop-cons}
 use borrow.Author.Tests.{ltb-false, le-ltb, eqb-true, eq-eqb, not-false}
+use Rattle.limits.specs.Size.{SizeLimits, sizeOutside}
+use Rattle.limits.proofs.Size.{size-within, size-inside}
 use Rattle.layout.specs.declared.Output.{Output}
 use Rattle.layout.specs.Bytes.{word}
-use Rattle.layout.specs.Matrix.{rows, columns, outside, matrixRefusal, matrix}
+use Rattle.layout.specs.Matrix.{rows, columns, matrixLength, matrixRefusal, matrix}
 use Rattle.layout.specs.Records.{Netlist}
+use Rattle.layout.specs.Places.{outputAt, operationsIn, netlistIn}
+use Rattle.layout.proofs.FirstRecords.{length-first}
 use Rattle.layout.proofs.MatrixRows.{matrix-length, matrix-row-length}
 use Rattle.width.specs.Machine.{machine, outputValue, outputForm}
-use Rattle.reading.specs.Read.{refused, accepted, readNetlist, outputAt}
+use Rattle.reading.specs.Read.{refused, accepted, readNetlist}
 use Rattle.reading.specs.Check.{checked, sameRow, rowsAnswer, matchAnswer, checkAnswer}
 use Rattle.reading.specs.Run.{netlistOutputs}
 use Rattle.reading.specs.Exact.{SameSize, ComputesRow}
-use Rattle.reading.specs.Tests.{Test, tested, AllPass, FirstFails, firstTests, operationsIn, netlistIn, readTests, MatrixLimits, matrixTests, rowTests, checkTests}
+use Rattle.reading.specs.Tests.{Test, tested, AllPass, FirstFails, firstTests, readTests, matrixTests, rowTests, checkTests}
 use Rattle.reading.specs.declared.CheckAnswer.{CheckAnswer}
-use Rattle.reading.proofs.FirstRecords.{length-first}
 use Rattle.reading.proofs.TestLaws.{Decided, RefusedBy, one-fault, no-test, all-append, fails-after, fails-among, behind-refusal, behind-reading, behind-test, declined-first, passed-all}
 use Rattle.reading.proofs.Conditions.{and-says, same-says}
 use Rattle.reading.proofs.ReadTests.{read-decided}
@@ -38,38 +41,20 @@ module _ (b : List ℕ) where
   other-says : (x y : ℕ) → (not (eqb x y) ≡ false) ↔ (x ≡ y)
   other-says x y = (λ e. eqb-true x y (not-false _ e), λ e. rw (eq-eqb x y e))
 
-  limits-say : ((outside (rows b) || outside (columns b)) ≡ false) ↔ MatrixLimits b
-  limits-say = (
-    there (ltb (rows b) 1) (ltb 8 (rows b)) (ltb (columns b) 1) (ltb 8 (columns b)) refl refl refl refl,
-    λ l. rw (le-ltb (rows b) 1 (l .rows-least), le-ltb 8 (rows b) (l .rows-most), le-ltb (columns b) 1 (l .columns-least), le-ltb 8 (columns b) (l .columns-most)),
-  )
-    where
-      there : (p q r s : Bool) → ltb (rows b) 1 ≡ p → ltb 8 (rows b) ≡ q → ltb (columns b) 1 ≡ r → ltb 8 (columns b) ≡ s → ((p || q) || (r || s)) ≡ false → MatrixLimits b
-      there true q r s c d e f h = absurd (true≢false h)
-      there false true r s c d e f h = absurd (true≢false h)
-      there false false true s c d e f h = absurd (true≢false h)
-      there false false false true c d e f h = absurd (true≢false h)
-      there false false false false c d e f h = record {
-        rows-least = ltb-false (rows b) 1 c;
-        rows-most = ltb-false 8 (rows b) d;
-        columns-least = ltb-false (columns b) 1 e;
-        columns-most = ltb-false 8 (columns b) f;
-      }
-
   pub matrix-refused : RefusedBy (matrixTests b) (matrixRefusal b) 0
   unfolding matrixRefusal
   matrix-refused =
-      let size = length b ≡ 6 + 2 * rows b * columns b in
+      let size = length b ≡ matrixLength (rows b) (columns b) in
       let from-five = tested 5 0 size ∷ [] in
-      let from-four = tested 4 0 (MatrixLimits b) ∷ from-five in
+      let from-four = tested 4 0 (SizeLimits (rows b) (columns b)) ∷ from-five in
       let from-three = tested 3 0 (word b 2 ≡ 1) ∷ from-four in
       let from-two = tested 2 0 (word b 0 ≡ length b) ∷ from-three in
       one-fault from-two (ltb (length b) 6) (6 ≤ length b) 1 0 _ (omega arith) short-says
       (one-fault from-three (not (eqb (word b 0) (length b))) (word b 0 ≡ length b) 2 0 _ (omega arith) (other-says (word b 0) (length b))
       (one-fault from-four (not (eqb (word b 2) 1)) (word b 2 ≡ 1) 3 0 _ (omega arith) (other-says (word b 2) 1)
-      (one-fault from-five (outside (rows b) || outside (columns b)) (MatrixLimits b) 4 0 _ (omega arith) limits-say
-      (one-fault [] (not (eqb (length b) (6 + 2 * rows b * columns b))) size 5 0 0 (omega arith)
-      (other-says (length b) (6 + 2 * rows b * columns b)) (no-test 0)))))
+      (one-fault from-five (sizeOutside (rows b) (columns b)) (SizeLimits (rows b) (columns b)) 4 0 _ (omega arith) (size-within (rows b) (columns b), size-inside (rows b) (columns b))
+      (one-fault [] (not (eqb (length b) (matrixLength (rows b) (columns b)))) size 5 0 0 (omega arith)
+      (other-says (length b) (matrixLength (rows b) (columns b))) (no-test 0)))))
 
 -- ---- 14: row by row
 

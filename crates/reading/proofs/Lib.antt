@@ -1,5 +1,4 @@
 -- Theorems about reading, checking and running a netlist, lowest first.
-pub mod FirstRecords
 pub mod TestLaws
 pub mod Conditions
 pub mod ReadTests

@@ -6,14 +6,16 @@ use mathlib.Core.Logic.{_↔_}
 use mathlib.Core.List.{List, [], _∷_, _++_, flatMap}
 use native.Mathlib.Omega.{arith}
 use lib.ListN.{length, length-append}
+use Rattle.limits.specs.Limits.{maxOperations}
 use Rattle.layout.specs.declared.Operation.{Operation}
 use Rattle.layout.specs.declared.Output.{Output}
 use Rattle.layout.specs.Bytes.{littleEndian, recordBytes}
-use Rattle.layout.specs.Records.{Netlist, headPayload, operationPayload, outputPayload, totalsPayload, headBytes, operationBytes, outputBytes, totalsBytes, netlistBytes}
+use Rattle.layout.specs.Records.{Netlist, headKind, headPayload, headBytes, operationKind, operationPayload, operationBytes, outputKind, outputPayload, outputBytes, totalsKind, totalsPayload, totalsBytes, netlistBytes}
 use Rattle.layout.proofs.LittleEndian.{AreBytes}
+use Rattle.width.specs.Netlist.{IsNetlist}
 use Rattle.width.proofs.DepthLaws.{depth-at-most}
 use Rattle.reading.specs.Read.{accepted, readNetlist}
-use Rattle.reading.specs.Exact.{IsNetlist, IsNetlistBytes}
+use Rattle.reading.specs.Exact.{readLimits, IsNetlistBytes}
 use Rattle.reading.proofs.ReadAccepts.{reads-netlist, reading-of}
 
 none : AreBytes []
@@ -40,46 +42,46 @@ of-all bytes [] each = none
 of-all bytes (x ∷ xs) each =
     both (bytes x) (flatMap bytes xs) (each [] xs x refl) (of-all bytes xs (λ before after y e. each (x ∷ before) after y (ap (λ l. x ∷ l) e)))
 
-module _ (net : Netlist) (is : IsNetlist net) where
-  count-small : length (net .operations) ≤ 504
+module _ (net : Netlist) (is : IsNetlist readLimits net) where
+  count-small : length (net .operations) ≤ maxOperations
   count-small = omega (arith, is .count, is .head .few)
 
   of-head : AreBytes (headBytes (net .head))
   unfolding headPayload
   of-head =
       let h = net .head in
-      of-record 2 (headPayload h) (omega arith) (omega arith)
-      (one (h .m) (h .n ∷ littleEndian (h .operations)) (omega (arith, is .head .rows-most))
-      (one (h .n) (littleEndian (h .operations)) (omega (arith, is .head .columns-most)) (two (h .operations) [] (omega (arith, is .head .few)) none)))
+      of-record headKind (headPayload h) (omega arith) (omega arith)
+      (one (h .m) (h .n ∷ littleEndian (h .operations)) (omega (arith, is .head .limits .rows-most))
+      (one (h .n) (littleEndian (h .operations)) (omega (arith, is .head .limits .columns-most)) (two (h .operations) [] (omega (arith, is .head .few)) none)))
 
   of-operation : (before after : List Operation) (o : Operation) → net .operations ≡ before ++ o ∷ after → AreBytes (operationBytes o)
   unfolding operationPayload
   of-operation before after o e =
       let it = is .operation before after o e in
       let l = it .limits in
-      let few : length before ≤ 504 = omega (arith, count-small, ap length e, length-append before (o ∷ after)) in
-      of-record 3 (operationPayload o) (omega arith) (omega arith)
+      let few : length before ≤ maxOperations = omega (arith, count-small, ap length e, length-append before (o ∷ after)) in
+      of-record operationKind (operationPayload o) (omega arith) (omega arith)
       (one (o .sign) (littleEndian (o .a) ++ o .sa ∷ littleEndian (o .b) ++ o .sb ∷ o .width ∷ []) (omega (arith, l .sign))
-      (two (o .a) (o .sa ∷ littleEndian (o .b) ++ o .sb ∷ o .width ∷ []) (omega (arith, l .first-earlier, is .head .columns-most))
+      (two (o .a) (o .sa ∷ littleEndian (o .b) ++ o .sb ∷ o .width ∷ []) (omega (arith, l .first-earlier, is .head .limits .columns-most))
       (one (o .sa) (littleEndian (o .b) ++ o .sb ∷ o .width ∷ []) (omega (arith, l .first-shift))
-      (two (o .b) (o .sb ∷ o .width ∷ []) (omega (arith, l .second-earlier, is .head .columns-most))
+      (two (o .b) (o .sb ∷ o .width ∷ []) (omega (arith, l .second-earlier, is .head .limits .columns-most))
       (one (o .sb) (o .width ∷ []) (omega (arith, l .second-shift)) (one (o .width) [] (omega (arith, it .width .narrow)) none))))))
 
   of-output : (before after : List Output) (o : Output) → net .outputs ≡ before ++ o ∷ after → AreBytes (outputBytes o)
   unfolding outputPayload
   of-output before after o e =
       let it = is .output before after o e in
-      let l = it .limits in
-      of-record 4 (outputPayload o) (omega arith) (omega arith)
+      let l = it .limits .operand in
+      of-record outputKind (outputPayload o) (omega arith) (omega arith)
       (one (o .sign) (littleEndian (o .symbol) ++ o .shift ∷ o .width ∷ []) (omega (arith, l .sign))
-      (two (o .symbol) (o .shift ∷ o .width ∷ []) (omega (arith, l .symbol, is .head .columns-most, count-small))
+      (two (o .symbol) (o .shift ∷ o .width ∷ []) (omega (arith, l .symbol, is .head .limits .columns-most, count-small))
       (one (o .shift) (o .width ∷ []) (omega (arith, l .shift)) (one (o .width) [] (omega (arith, it .width .narrow)) none))))
 
   of-totals : AreBytes (totalsBytes (net .totals))
   unfolding totalsPayload
   of-totals =
       let t = net .totals in
-      of-record 5 (totalsPayload t) (omega arith) (omega arith)
+      of-record totalsKind (totalsPayload t) (omega arith) (omega arith)
       (two (t .operations) (littleEndian (t .depth)) (omega (arith, is .totals .count, is .head .few))
       (two (t .depth) [] (omega (arith, is .totals .deepest, depth-at-most (net .head .n) (net .operations), count-small)) none))
 

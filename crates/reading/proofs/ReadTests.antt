@@ -15,15 +15,17 @@ use Rattle.layout.specs.declared.Operation.{Operation}
 use Rattle.layout.specs.declared.Output.{Output}
 use Rattle.layout.specs.declared.Totals.{Totals}
 use Rattle.layout.specs.Bytes.{word}
-use Rattle.layout.specs.Records.{Netlist}
+use Rattle.layout.specs.Records.{Netlist, headKind, headLength, operationKind, operationLength, outputKind, outputLength, totalsKind, totalsLength}
+use Rattle.layout.specs.Places.{operationPlace, outputPlace, totalsPlace, headAt, operationAt, outputAt, totalsAt, firstOperations, firstOutputs, operationsIn, outputsIn, totalsPlaceIn, netlistIn}
 use Rattle.layout.specs.Step.{remaining, stepRefusal}
 use Rattle.layout.proofs.Accepted.{no-header, overrun, below-least, not-refused}
+use Rattle.layout.proofs.FirstRecords.{length-first}
 use Rattle.width.specs.Machine.{machine, operationValue, outputValue}
-use Rattle.reading.specs.Read.{Reading, refused, accepted, andThen, readRecord, recordRefusal, headAt, headInRange, headRefusal, operationPlace, operationAt, operationInRange, operationWidth, operationRefusal, outputPlace, outputAt, outputInRange, outputWidth, outputRefusal, totalsAt, totalsRight, totalsRefusal, widthRight, leftoverRefusal, readHead, readOperations, readOutputs, readTotals, readNetlist, readRefused, readAccepted, answerOf, readAnswer}
+use Rattle.width.specs.Netlist.{HeadLimits, OperationLimits, OutputLimits, WidthRight, TotalsRight}
+use Rattle.reading.specs.Read.{Reading, refused, accepted, andThen, readRecord, recordRefusal, headInRange, headRefusal, operationInRange, operationWidth, operationRefusal, outputInRange, outputWidth, outputRefusal, totalsRight, totalsRefusal, widthRight, leftoverRefusal, readHead, readOperations, readOutputs, readTotals, readNetlist, readRefused, readAccepted, readAnswerOf, readAnswer}
 use Rattle.reading.specs.declared.ReadAnswer.{ReadAnswer}
-use Rattle.reading.specs.Exact.{HeadLimits, OperationLimits, OutputLimits, WidthRight, TotalsRight}
-use Rattle.reading.specs.Tests.{Test, tested, AllPass, FirstFails, Whole, Expected, recordTests, headTests, firstRecords, firstTests, operationTests, outputTests, totalsTests, operationsIn, outputsIn, totalsPlace, netlistIn, readTests}
-use Rattle.reading.proofs.FirstRecords.{length-first}
+use Rattle.reading.specs.Exact.{readLimits}
+use Rattle.reading.specs.Tests.{Test, tested, AllPass, FirstFails, Whole, Expected, recordTests, headTests, firstTests, operationTests, outputTests, totalsTests, readTests}
 use Rattle.reading.proofs.TestLaws.{Decided, RefusedBy, one-test, no-test, both-parts, record-decided, then-decided, records-decided, answer-decided, declined-first, passed-all}
 use Rattle.reading.proofs.Conditions.{and-says, same-says, head-says, operation-says, operation-width-says, output-says, output-width-says, totals-says}
 
@@ -86,46 +88,46 @@ module _ (b : List ℕ) (place kind size : ℕ) (enough : 4 ≤ size) where
 module _ (b : List ℕ) where
   head-refused : RefusedBy (headTests b) (headRefusal b) 0
   unfolding headRefusal
-  head-refused = more-refused b 0 2 8 (omega arith) (headInRange (headAt b)) (HeadLimits (headAt b)) 9 (omega arith) (head-says (headAt b))
+  head-refused = more-refused b 0 headKind headLength (omega arith) (headInRange (headAt b)) (HeadLimits readLimits (headAt b)) 9 (omega arith) (head-says (headAt b))
 
   -- operation k behind the operations os
   abbrev tests-behind : ℕ → List Operation → ℕ → List Test
   tests-behind n os k =
-      recordTests b (operationPlace k) 3 12
-      ++ (tested 9 (operationPlace k) (OperationLimits (n + k) (operationAt b k))
-      ∷ tested 10 (operationPlace k) (WidthRight n (λ xs. operationValue (machine xs os) (operationAt b k)) (operationAt b k .width))
+      recordTests b (operationPlace headLength k) operationKind operationLength
+      ++ (tested 9 (operationPlace headLength k) (OperationLimits readLimits (n + k) (operationAt b k))
+      ∷ tested 10 (operationPlace headLength k) (WidthRight readLimits n (λ xs. operationValue (machine xs os) (operationAt b k)) (operationAt b k .width))
       ∷ [])
 
-  operation-refused : (n : ℕ) (os : List Operation) → RefusedBy (tests-behind n os (length os)) (operationRefusal b n os) (operationPlace (length os))
+  operation-refused : (n : ℕ) (os : List Operation) → RefusedBy (tests-behind n os (length os)) (operationRefusal b n os) (operationPlace headLength (length os))
   unfolding operationRefusal
   operation-refused n os =
       let o = operationAt b (length os) in
-      fields-refused b (operationPlace (length os)) 3 12 (omega arith) (operationInRange (n + length os) o) (widthRight (o .width) (operationWidth n os o))
-      (OperationLimits (n + length os) o) (WidthRight n (λ xs. operationValue (machine xs os) o) (o .width))
+      fields-refused b (operationPlace headLength (length os)) operationKind operationLength (omega arith) (operationInRange (n + length os) o) (widthRight (o .width) (operationWidth n os o))
+      (OperationLimits readLimits (n + length os) o) (WidthRight readLimits n (λ xs. operationValue (machine xs os) o) (o .width))
       (operation-says (n + length os) o) (operation-width-says n os o)
 
-  each-operation-refused : (n k : ℕ) → RefusedBy (operationTests b n k) (operationRefusal b n (firstRecords (operationAt b) k)) (operationPlace k)
+  each-operation-refused : (n k : ℕ) → RefusedBy (operationTests b n k) (operationRefusal b n (firstOperations b k)) (operationPlace headLength k)
   each-operation-refused n k =
-      let os = firstRecords (operationAt b) k in
-      subst (λ j. RefusedBy (tests-behind n os j) (operationRefusal b n os) (operationPlace j)) (length-first (operationAt b) k) (operation-refused n os)
+      let os = firstOperations b k in
+      subst (λ j. RefusedBy (tests-behind n os j) (operationRefusal b n os) (operationPlace headLength j)) (length-first (operationAt b) k) (operation-refused n os)
 
-  output-refused : (n : ℕ) (os : List Operation) (i : ℕ) → RefusedBy (outputTests b n os i) (outputRefusal b n os i) (outputPlace (length os) i)
+  output-refused : (n : ℕ) (os : List Operation) (i : ℕ) → RefusedBy (outputTests b n os i) (outputRefusal b n os i) (outputPlace headLength (length os) i)
   unfolding outputRefusal
   output-refused n os i =
       let o = outputAt b (length os) i in
-      fields-refused b (outputPlace (length os) i) 4 9 (omega arith) (outputInRange (n + length os) o) (widthRight (o .width) (outputWidth n os o))
-      (OutputLimits (n + length os) o) (WidthRight n (λ xs. outputValue (machine xs os) o) (o .width))
+      fields-refused b (outputPlace headLength (length os) i) outputKind outputLength (omega arith) (outputInRange (n + length os) o) (widthRight (o .width) (outputWidth n os o))
+      (OutputLimits readLimits (n + length os) o) (WidthRight readLimits n (λ xs. outputValue (machine xs os) o) (o .width))
       (output-says (n + length os) o) (output-width-says n os o)
 
   each-output-refused : (n : ℕ) (os : List Operation) (i : ℕ)
-      → RefusedBy (outputTests b n os i) (outputRefusal b n os (length (firstRecords (outputAt b (length os)) i))) (outputPlace (length os) i)
+      → RefusedBy (outputTests b n os i) (outputRefusal b n os (length (firstOutputs b (length os) i))) (outputPlace headLength (length os) i)
   each-output-refused n os i = rw (length-first (outputAt b (length os)) i) (output-refused n os i)
 
   totals-refused : (place : ℕ) (h : Head) (os : List Operation)
-      → RefusedBy (recordTests b place 5 8 ++ (tested 11 place (TotalsRight h os (totalsAt b place)) ∷ [])) (totalsRefusal b place h os) place
+      → RefusedBy (recordTests b place totalsKind totalsLength ++ (tested 11 place (TotalsRight h os (totalsAt b place)) ∷ [])) (totalsRefusal b place h os) place
   unfolding totalsRefusal
   totals-refused place h os =
-      more-refused b place 5 8 (omega arith) (totalsRight h os (totalsAt b place)) (TotalsRight h os (totalsAt b place)) 11 (omega arith) (totals-says h os (totalsAt b place))
+      more-refused b place totalsKind totalsLength (omega arith) (totalsRight h os (totalsAt b place)) (TotalsRight h os (totalsAt b place)) 11 (omega arith) (totals-says h os (totalsAt b place))
 
   leftover-refused : (place : ℕ) → RefusedBy (tested 12 place (length b ≤ place) ∷ []) (leftoverRefusal b place) place
   leftover-refused place = go (ltb place (length b)) refl
@@ -138,25 +140,25 @@ module _ (b : List ℕ) where
 
   abbrev rest-of-totals : ℕ → Head → List Operation → List Output → Totals → Reading Netlist
   rest-of-totals place h os outputs t =
-      readRecord (leftoverRefusal b (place + 8)) (place + 8) (record { head = h; operations = os; outputs = outputs; totals = t })
+      readRecord (leftoverRefusal b (place + totalsLength)) (place + totalsLength) (record { head = h; operations = os; outputs = outputs; totals = t })
 
   abbrev rest-of-outputs : Head → List Operation → List Output → Reading Netlist
   rest-of-outputs h os outputs =
-      let place = outputPlace (length os) (length outputs) in
+      let place = totalsPlace headLength (length os) (length outputs) in
       andThen (readTotals b place h os) (rest-of-totals place h os outputs)
 
   totals-decided : (h : Head) (os : List Operation) (outputs : List Output)
-      → let place = outputPlace (length os) (length outputs) in
+      → let place = totalsPlace headLength (length os) (length outputs) in
       Decided (totalsTests b place h os) (rest-of-outputs h os outputs)
       (accepted (record { head = h; operations = os; outputs = outputs; totals = totalsAt b place })) refused
   totals-decided h os outputs =
-      let place = outputPlace (length os) (length outputs) in
+      let place = totalsPlace headLength (length os) (length outputs) in
       let t = totalsAt b place in
       let net : Netlist = record { head = h; operations = os; outputs = outputs; totals = t } in
-      then-decided (recordTests b place 5 8 ++ (tested 11 place (TotalsRight h os t) ∷ [])) (tested 12 (place + 8) (length b ≤ place + 8) ∷ [])
+      then-decided (recordTests b place totalsKind totalsLength ++ (tested 11 place (TotalsRight h os t) ∷ [])) (tested 12 (place + totalsLength) (length b ≤ place + totalsLength) ∷ [])
       (readTotals b place h os) (rest-of-totals place h os outputs) t net
-      (record-decided (recordTests b place 5 8 ++ (tested 11 place (TotalsRight h os t) ∷ [])) (totalsRefusal b place h os) place t (totals-refused place h os))
-      (record-decided (tested 12 (place + 8) (length b ≤ place + 8) ∷ []) (leftoverRefusal b (place + 8)) (place + 8) net (leftover-refused (place + 8)))
+      (record-decided (recordTests b place totalsKind totalsLength ++ (tested 11 place (TotalsRight h os t) ∷ [])) (totalsRefusal b place h os) place t (totals-refused place h os))
+      (record-decided (tested 12 (place + totalsLength) (length b ≤ place + totalsLength) ∷ []) (leftoverRefusal b (place + totalsLength)) (place + totalsLength) net (leftover-refused (place + totalsLength)))
 
   pub read-decided : Decided (readTests b) (readNetlist b) (accepted (netlistIn b)) refused
   unfolding readTests readNetlist
@@ -165,7 +167,7 @@ module _ (b : List ℕ) where
       let os = operationsIn b in
       let outputs = outputsIn b in
       let net = netlistIn b in
-      let tests = totalsTests b (totalsPlace b) h os in
+      let tests = totalsTests b (totalsPlaceIn b) h os in
       let behind-outputs = firstTests (outputTests b (h .n) os) (h .m) ++ tests in
       let behind-head = firstTests (operationTests b (h .n)) (h .operations) ++ behind-outputs in
       then-decided (headTests b) behind-head (readHead b)
@@ -173,9 +175,9 @@ module _ (b : List ℕ) where
       (record-decided (headTests b) (headRefusal b) 0 h head-refused)
       (then-decided (firstTests (operationTests b (h .n)) (h .operations)) behind-outputs (readOperations b h)
       (λ os. andThen (readOutputs b h os) (rest-of-outputs h os)) os net
-      (records-decided (operationRefusal b (h .n)) operationPlace (operationAt b) (operationTests b (h .n)) (each-operation-refused (h .n)) (h .operations))
+      (records-decided (operationRefusal b (h .n)) (operationPlace headLength) (operationAt b) (operationTests b (h .n)) (each-operation-refused (h .n)) (h .operations))
       (then-decided (firstTests (outputTests b (h .n) os) (h .m)) tests (readOutputs b h os) (rest-of-outputs h os) outputs net
-      (records-decided (λ before. outputRefusal b (h .n) os (length before)) (outputPlace (length os)) (outputAt b (length os)) (outputTests b (h .n) os)
+      (records-decided (λ before. outputRefusal b (h .n) os (length before)) (outputPlace headLength (length os)) (outputAt b (length os)) (outputTests b (h .n) os)
       (each-output-refused (h .n) os) (h .m))
       (totals-decided h os outputs)))
 
@@ -207,7 +209,7 @@ reading-netlist b net e = go (read-decided b)
 module _ (b : List ℕ) where
   pub read-answer-decided : Decided (readTests b) (readAnswer b) (readAccepted (netlistIn b)) readRefused
   unfolding readAnswer
-  read-answer-decided = answer-decided (readTests b) (readNetlist b) (accepted (netlistIn b)) refused answerOf (read-decided b)
+  read-answer-decided = answer-decided (readTests b) (readNetlist b) (accepted (netlistIn b)) refused readAnswerOf (read-decided b)
 
   other-number : (r place : ℕ) → 0 < r → readAccepted (netlistIn b) ≡ readRefused r place → ⊥
   other-number r place h e = omega (arith, ap (λ (a : ReadAnswer). a .refusal) e)

@@ -11,15 +11,17 @@ use lib.Dec.{eqb}
 use lib.IntN.{ℤ}
 use lib.ListN.{length}
 use borrow.Author.Tests.{eq-eqb}
+use Rattle.limits.specs.Limits.{sampleWidth}
 use Rattle.layout.specs.Matrix.{matrix}
 use Rattle.layout.specs.Records.{Netlist}
+use Rattle.layout.specs.Places.{headAt, netlistIn}
 use Rattle.layout.proofs.LittleEndian.{AreBytes}
 use Rattle.width.specs.Machine.{times}
 use Rattle.width.specs.Width.{Samples}
-use Rattle.reading.specs.Read.{Reading, refused, accepted, headAt, readNetlist}
+use Rattle.reading.specs.Read.{Reading, refused, accepted, readNetlist}
 use Rattle.reading.specs.Run.{ran, countsAnswer, runAnswer, netlistOutputs, runOutputs}
 use Rattle.reading.specs.Exact.{IsNetlistBytes, IsNetlistOf}
-use Rattle.reading.specs.Tests.{tested, AllPass, FirstFails, netlistIn, readTests, runTests}
+use Rattle.reading.specs.Tests.{tested, AllPass, FirstFails, readTests, runTests}
 use Rattle.reading.specs.declared.RunAnswer.{RunAnswer}
 use Rattle.reading.proofs.TestLaws.{Decided, behind-reading, behind-test, declined-first, passed-all, all-split}
 use Rattle.reading.proofs.Conditions.{same-says}
@@ -111,6 +113,6 @@ module _ (b : List ℕ) (samples outputs : List ℤ) where
   )
 
 -- the outputs of a netlist that check accepts are row times vector
-pub run-computes : (mb b : List ℕ) (net : Netlist) (samples outputs : List ℤ) → IsNetlistOf mb b net → Samples 16 (net .head .n) samples
+pub run-computes : (mb b : List ℕ) (net : Netlist) (samples outputs : List ℤ) → IsNetlistOf mb b net → Samples sampleWidth (net .head .n) samples
     → length outputs ≡ net .head .m → runOutputs b samples outputs ≡ map (λ row. times row samples) (matrix mb)
 run-computes mb b net samples outputs is s m = run-fills b samples outputs net (is .netlist) (s .count) m .1 ∙ is .computes samples s

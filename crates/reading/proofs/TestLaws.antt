@@ -6,9 +6,10 @@ use mathlib.Core.Bool.{Bool, true, false, cond, true≢false}
 use mathlib.Core.Logic.{_↔_, _⊎_, inl, inr, ⊎-elim}
 use mathlib.Core.List.{List, [], _∷_, _++_}
 use native.Mathlib.Omega.{arith}
+use Rattle.layout.specs.Places.{firstRecords}
+use Rattle.layout.proofs.FirstRecords.{last-or-earlier, length-first}
 use Rattle.reading.specs.Read.{Reading, refused, accepted, andThen, readRecord, readRecords}
-use Rattle.reading.specs.Tests.{Test, tested, AllPass, FirstFails, firstRecords, firstTests}
-use Rattle.reading.proofs.FirstRecords.{last-or-earlier, length-first}
+use Rattle.reading.specs.Tests.{Test, tested, AllPass, FirstFails, firstTests}
 
 -- ---- tests one after another
 

@@ -1,57 +1,23 @@
 -- Document 01, "Reading, checking, running" and "Why a record was declined": reading a netlist, refusals 7 to 12 record by record.
 -- Assumes nothing.
-use Prim.Native.Nat.{ℕ, zero, suc, _+_, _*_}
+use Prim.Native.Nat.{ℕ, zero, suc, _+_}
 use mathlib.Core.Bool.{Bool, true, false, not, _&&_, _||_}
 use mathlib.Core.List.{List, [], _∷_, _++_}
 use lib.Dec.{leb, ltb, eqb}
 use lib.ListN.{length}
+use Rattle.limits.specs.Limits.{maxShift, sampleWidth, maxOperations, maxWidth}
+use Rattle.limits.specs.Size.{sizeOutside}
 use Rattle.layout.specs.declared.Head.{Head}
 use Rattle.layout.specs.declared.Operation.{Operation}
 use Rattle.layout.specs.declared.Output.{Output}
 use Rattle.layout.specs.declared.Totals.{Totals}
 use Rattle.layout.specs.Bytes.{word}
-use Rattle.layout.specs.Matrix.{outside}
-use Rattle.layout.specs.Records.{Netlist, headOf, operationOf, outputOf, totalsOf}
-use Rattle.layout.specs.Step.{stepRefusal, payloadAt}
+use Rattle.layout.specs.Records.{Netlist, headKind, headLength, operationKind, operationLength, outputKind, outputLength, totalsKind, totalsLength}
+use Rattle.layout.specs.Places.{operationPlace, outputPlace, totalsPlace, headAt, operationAt, outputAt, totalsAt}
+use Rattle.layout.specs.Step.{stepRefusal}
 use Rattle.width.specs.Machine.{entryForm, outputForm, depth}
 use Rattle.width.specs.Width.{width}
 use Rattle.reading.specs.declared.ReadAnswer.{ReadAnswer}
-
--- ---- limits
-
--- "operations (2 bytes, at most 504)"
-abbrev pub maxOperations : ℕ
-maxOperations = 504
-
--- "Shifts are 0 to 15; widths read are at most 40"
-abbrev pub maxShift : ℕ
-maxShift = 15
-
-abbrev pub maxWidth : ℕ
-maxWidth = 40
-
-abbrev pub sampleWidth : ℕ
-sampleWidth = 16
-
--- ---- where each record starts, and the fields of the record there
-
-abbrev pub headAt : List ℕ → Head
-headAt bytes = headOf (payloadAt bytes 0)
-
-abbrev pub operationPlace : ℕ → ℕ
-operationPlace k = 8 + 12 * k
-
-abbrev pub operationAt : List ℕ → ℕ → Operation
-operationAt bytes k = operationOf (payloadAt bytes (operationPlace k))
-
-abbrev pub outputPlace : ℕ → ℕ → ℕ
-outputPlace operations i = operationPlace operations + 9 * i
-
-abbrev pub outputAt : List ℕ → ℕ → ℕ → Output
-outputAt bytes operations i = outputOf (payloadAt bytes (outputPlace operations i))
-
-abbrev pub totalsAt : List ℕ → ℕ → Totals
-totalsAt bytes place = totalsOf (payloadAt bytes place)
 
 -- ---- refusals of one record; 0 is none
 
@@ -63,13 +29,13 @@ recordRefusal bytes place kind size =
       | zero ↦ elim (eqb (word bytes (place + 2)) kind && eqb (word bytes place) size) [ true ↦ 0 | false ↦ 8 ]
     ]
 
--- 9: m or n outside 1 to 8, or more than 504 operations
+-- 9: m or n outside their limits, or more operations than the most
 abbrev pub headInRange : Head → Bool
-headInRange h = not (outside (h .m)) && (not (outside (h .n)) && leb (h .operations) maxOperations)
+headInRange h = not (sizeOutside (h .m) (h .n)) && leb (h .operations) maxOperations
 
 unfoldable pub headRefusal : List ℕ → ℕ
 headRefusal bytes =
-    elim (recordRefusal bytes 0 2 8) [
+    elim (recordRefusal bytes 0 headKind headLength) [
       | suc r ↦ suc r
       | zero ↦ elim (headInRange (headAt bytes)) [ true ↦ 0 | false ↦ 9 ]
     ]
@@ -79,7 +45,7 @@ abbrev pub operationInRange : ℕ → Operation → Bool
 operationInRange symbol o =
     leb (o .sign) 1 && (leb (o .sa) maxShift && (leb (o .sb) maxShift && (ltb (o .a) symbol && ltb (o .b) symbol)))
 
--- 10: the recorded width is not the width, or the width exceeds 40
+-- 10: the recorded width is not the width, or "the width exceeds 40"
 abbrev pub widthRight : ℕ → ℕ → Bool
 widthRight recorded w = eqb recorded w && leb w maxWidth
 
@@ -90,7 +56,7 @@ operationWidth n os o = width sampleWidth (entryForm n (os ++ (o ∷ [])) (n + l
 -- the operation that follows the operations os
 unfoldable pub operationRefusal : List ℕ → ℕ → List Operation → ℕ
 operationRefusal bytes n os =
-    elim (recordRefusal bytes (operationPlace (length os)) 3 12) [
+    elim (recordRefusal bytes (operationPlace headLength (length os)) operationKind operationLength) [
       | suc r ↦ suc r
       | zero ↦
           let o = operationAt bytes (length os) in
@@ -112,7 +78,7 @@ outputWidth n os o = width sampleWidth (outputForm n os o)
 -- output i of a netlist of the operations os
 unfoldable pub outputRefusal : List ℕ → ℕ → List Operation → ℕ → ℕ
 outputRefusal bytes n os i =
-    elim (recordRefusal bytes (outputPlace (length os) i) 4 9) [
+    elim (recordRefusal bytes (outputPlace headLength (length os) i) outputKind outputLength) [
       | suc r ↦ suc r
       | zero ↦
           let o = outputAt bytes (length os) i in
@@ -128,7 +94,7 @@ totalsRight h os t = eqb (t .operations) (h .operations) && eqb (t .depth) (dept
 
 unfoldable pub totalsRefusal : List ℕ → ℕ → Head → List Operation → ℕ
 totalsRefusal bytes place h os =
-    elim (recordRefusal bytes place 5 8) [
+    elim (recordRefusal bytes place totalsKind totalsLength) [
       | suc r ↦ suc r
       | zero ↦ elim (totalsRight h os (totalsAt bytes place)) [ true ↦ 0 | false ↦ 11 ]
     ]
@@ -160,11 +126,11 @@ abbrev pub readHead : List ℕ → Reading Head
 readHead bytes = readRecord (headRefusal bytes) 0 (headAt bytes)
 
 abbrev pub readOperations : List ℕ → Head → Reading (List Operation)
-readOperations bytes h = readRecords (operationRefusal bytes (h .n)) operationPlace (operationAt bytes) (h .operations) []
+readOperations bytes h = readRecords (operationRefusal bytes (h .n)) (operationPlace headLength) (operationAt bytes) (h .operations) []
 
 abbrev pub readOutputs : List ℕ → Head → List Operation → Reading (List Output)
 readOutputs bytes h os =
-    readRecords (λ outputs. outputRefusal bytes (h .n) os (length outputs)) (outputPlace (length os)) (outputAt bytes (length os)) (h .m) []
+    readRecords (λ outputs. outputRefusal bytes (h .n) os (length outputs)) (outputPlace headLength (length os)) (outputAt bytes (length os)) (h .m) []
 
 abbrev pub readTotals : List ℕ → ℕ → Head → List Operation → Reading Totals
 readTotals bytes place h os = readRecord (totalsRefusal bytes place h os) place (totalsAt bytes place)
@@ -178,9 +144,9 @@ readNetlist bytes =
     andThen (readHead bytes) (λ h.
     andThen (readOperations bytes h) (λ os.
     andThen (readOutputs bytes h os) (λ outputs.
-    let place = outputPlace (length os) (length outputs) in
+    let place = totalsPlace headLength (length os) (length outputs) in
     andThen (readTotals bytes place h os) (λ t.
-    readRecord (leftoverRefusal bytes (place + 8)) (place + 8) (record { head = h; operations = os; outputs = outputs; totals = t })))))
+    readRecord (leftoverRefusal bytes (place + totalsLength)) (place + totalsLength) (record { head = h; operations = os; outputs = outputs; totals = t })))))
 
 -- ---- read's answer: m, n, operations, depth; a refusal has all counts 0
 
@@ -191,9 +157,9 @@ abbrev pub readAccepted : Netlist → ReadAnswer
 readAccepted net =
     record { refusal = 0; place = 0; m = net .head .m; n = net .head .n; operations = net .head .operations; depth = net .totals .depth }
 
-abbrev pub answerOf : Reading Netlist → ReadAnswer
-answerOf (refused r place) = readRefused r place
-answerOf (accepted net) = readAccepted net
+abbrev pub readAnswerOf : Reading Netlist → ReadAnswer
+readAnswerOf (refused r place) = readRefused r place
+readAnswerOf (accepted net) = readAccepted net
 
 unfoldable pub readAnswer : List ℕ → ReadAnswer
-readAnswer bytes = answerOf (readNetlist bytes)
+readAnswer bytes = readAnswerOf (readNetlist bytes)

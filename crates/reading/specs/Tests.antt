@@ -1,22 +1,23 @@
 -- Document 01, "Why a record was declined": the tests of read, check and run in their order, each with the number and the place that
 -- are returned where it is the first that fails. Nothing here computes an answer; read, check and run are held to these lists.
 -- Assumes nothing.
-use Prim.Native.Nat.{ℕ, zero, suc, _+_, _*_, _≤_}
+use Prim.Native.Nat.{ℕ, zero, suc, _+_, _≤_}
 use mathlib.Core.Path.{_≡_}
 use mathlib.Core.Logic.{_⊎_}
 use mathlib.Core.List.{List, [], _∷_, _++_}
 use lib.IntN.{ℤ}
 use lib.ListN.{length}
+use Rattle.limits.specs.Size.{SizeLimits}
 use Rattle.layout.specs.declared.Head.{Head}
 use Rattle.layout.specs.declared.Operation.{Operation}
-use Rattle.layout.specs.declared.Output.{Output}
 use Rattle.layout.specs.Bytes.{word}
-use Rattle.layout.specs.Matrix.{rows, columns, matrix}
-use Rattle.layout.specs.Records.{Netlist}
+use Rattle.layout.specs.Matrix.{rows, columns, matrixLength, matrix}
+use Rattle.layout.specs.Records.{Netlist, headKind, headLength, operationKind, operationLength, outputKind, outputLength, totalsKind, totalsLength}
+use Rattle.layout.specs.Places.{operationPlace, outputPlace, headAt, operationAt, outputAt, totalsAt, firstOperations, operationsIn, totalsPlaceIn, netlistIn}
 use Rattle.layout.specs.Step.{remaining}
 use Rattle.width.specs.Machine.{machine, operationValue, outputValue}
-use Rattle.reading.specs.Read.{headAt, operationPlace, operationAt, outputPlace, outputAt, totalsAt}
-use Rattle.reading.specs.Exact.{HeadLimits, OperationLimits, OutputLimits, WidthRight, TotalsRight, SameSize, ComputesRow}
+use Rattle.width.specs.Netlist.{HeadLimits, OperationLimits, OutputLimits, WidthRight, TotalsRight}
+use Rattle.reading.specs.Exact.{readLimits, SameSize, ComputesRow}
 
 -- a test's number and place, and what holds where it passes
 pub record Test : Type 1 where
@@ -55,12 +56,7 @@ abbrev pub recordTests : List ℕ → ℕ → ℕ → ℕ → List Test
 recordTests bytes place kind size = tested 7 place (Whole bytes place) ∷ tested 8 place (Expected bytes place kind size) ∷ []
 
 abbrev pub headTests : List ℕ → List Test
-headTests bytes = recordTests bytes 0 2 8 ++ (tested 9 0 (HeadLimits (headAt bytes)) ∷ [])
-
--- the fields of the first k records of a kind
-unfoldable pub firstRecords : {A : Type 0} → (ℕ → A) → ℕ → List A
-firstRecords fields zero = []
-firstRecords fields (suc k) = firstRecords fields k ++ (fields k ∷ [])
+headTests bytes = recordTests bytes 0 headKind headLength ++ (tested 9 0 (HeadLimits readLimits (headAt bytes)) ∷ [])
 
 -- the tests of the first k records of a kind
 unfoldable pub firstTests : (ℕ → List Test) → ℕ → List Test
@@ -70,39 +66,25 @@ firstTests tests (suc k) = firstTests tests k ++ tests k
 -- operation k, behind the k operations before it
 abbrev pub operationTests : List ℕ → ℕ → ℕ → List Test
 operationTests bytes n k =
-    let place = operationPlace k in
+    let place = operationPlace headLength k in
     let o = operationAt bytes k in
-    let before = firstRecords (operationAt bytes) k in
-    recordTests bytes place 3 12
-    ++ (tested 9 place (OperationLimits (n + k) o) ∷ tested 10 place (WidthRight n (λ xs. operationValue (machine xs before) o) (o .width)) ∷ [])
+    let before = firstOperations bytes k in
+    recordTests bytes place operationKind operationLength
+    ++ (tested 9 place (OperationLimits readLimits (n + k) o) ∷ tested 10 place (WidthRight readLimits n (λ xs. operationValue (machine xs before) o) (o .width)) ∷ [])
 
 -- output i of a netlist of the operations os
 abbrev pub outputTests : List ℕ → ℕ → List Operation → ℕ → List Test
 outputTests bytes n os i =
-    let place = outputPlace (length os) i in
+    let place = outputPlace headLength (length os) i in
     let o = outputAt bytes (length os) i in
-    recordTests bytes place 4 9
-    ++ (tested 9 place (OutputLimits (n + length os) o) ∷ tested 10 place (WidthRight n (λ xs. outputValue (machine xs os) o) (o .width)) ∷ [])
+    recordTests bytes place outputKind outputLength
+    ++ (tested 9 place (OutputLimits readLimits (n + length os) o) ∷ tested 10 place (WidthRight readLimits n (λ xs. outputValue (machine xs os) o) (o .width)) ∷ [])
 
 -- 11: totals differ from the head's count or the depth; 12, place after totals: bytes left over
 abbrev pub totalsTests : List ℕ → ℕ → Head → List Operation → List Test
 totalsTests bytes place h os =
-    recordTests bytes place 5 8
-    ++ (tested 11 place (TotalsRight h os (totalsAt bytes place)) ∷ tested 12 (place + 8) (length bytes ≤ place + 8) ∷ [])
-
-abbrev pub operationsIn : List ℕ → List Operation
-operationsIn bytes = firstRecords (operationAt bytes) (headAt bytes .operations)
-
-abbrev pub outputsIn : List ℕ → List Output
-outputsIn bytes = firstRecords (outputAt bytes (length (operationsIn bytes))) (headAt bytes .m)
-
-abbrev pub totalsPlace : List ℕ → ℕ
-totalsPlace bytes = outputPlace (length (operationsIn bytes)) (length (outputsIn bytes))
-
--- the netlist that stands in the bytes if they pass all tests
-abbrev pub netlistIn : List ℕ → Netlist
-netlistIn bytes =
-    record { head = headAt bytes; operations = operationsIn bytes; outputs = outputsIn bytes; totals = totalsAt bytes (totalsPlace bytes) }
+    recordTests bytes place totalsKind totalsLength
+    ++ (tested 11 place (TotalsRight h os (totalsAt bytes place)) ∷ tested 12 (place + totalsLength) (length bytes ≤ place + totalsLength) ∷ [])
 
 unfoldable pub readTests : List ℕ → List Test
 readTests bytes =
@@ -111,25 +93,19 @@ readTests bytes =
     headTests bytes
     ++ (firstTests (operationTests bytes (h .n)) (h .operations)
     ++ (firstTests (outputTests bytes (h .n) os) (h .m)
-    ++ totalsTests bytes (totalsPlace bytes) h os))
+    ++ totalsTests bytes (totalsPlaceIn bytes) h os))
 
 -- ---- check: 1 to 5, 7 to 12, 13, 14
 
--- 4: m or n outside 1 to 8
-pub record MatrixLimits (bytes : List ℕ) : Type 0 where
-  pub rows-least : 1 ≤ rows bytes
-  pub rows-most : rows bytes ≤ 8
-  pub columns-least : 1 ≤ columns bytes
-  pub columns-most : columns bytes ≤ 8
-
--- 1: fewer than 6 bytes; 2: length field differs from the number of bytes lent; 3: kind is not 1; 5: length is not 6 + 2 times m times n
+-- 1: fewer than 6 bytes; 2: length field differs from the number of bytes lent; 3: kind is not 1; 4: m or n outside 1 to 8;
+-- 5: length is not 6 + 2 times m times n
 abbrev pub matrixTests : List ℕ → List Test
 matrixTests bytes =
     tested 1 0 (6 ≤ length bytes)
     ∷ tested 2 0 (word bytes 0 ≡ length bytes)
     ∷ tested 3 0 (word bytes 2 ≡ 1)
-    ∷ tested 4 0 (MatrixLimits bytes)
-    ∷ tested 5 0 (length bytes ≡ 6 + 2 * rows bytes * columns bytes)
+    ∷ tested 4 0 (SizeLimits (rows bytes) (columns bytes))
+    ∷ tested 5 0 (length bytes ≡ matrixLength (rows bytes) (columns bytes))
     ∷ []
 
 -- 14, place = row: its coefficients differ, that is, output i is not row i times vector for every vector of samples

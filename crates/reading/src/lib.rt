@@ -1,5 +1,5 @@
-// Document 01, "Reading, checking, running": what read, check and run answer. Rests on layout and width alone, and sees nothing of the
-// elimination; the theorems about these answers stand in proofs/.
+// Document 01, "Reading, checking, running": what read, check and run answer. Rests on limits, layout and width alone, and sees
+// nothing of the elimination; the theorems about these answers stand in proofs/.
 ghost use mathlib.Core.Path.{_≡_};
 ghost use Rattle.reading.specs.Read.{readRefused};
 

@@ -8,18 +8,21 @@ use native.Mathlib.Numerals.{add-one}
 use lib.IntN.{ℤ}
 use lib.ListN.{length, getD, drop}
 use borrow.Author.Tests.{not-true, not-false}
+use Rattle.limits.specs.Limits.{maxRows, maxColumns, maxOperations, symbols}
 use Rattle.layout.specs.declared.Output.{Output}
 use Rattle.layout.specs.Matrix.{rows, columns, matrix, coefficientsFrom}
+use Rattle.layout.specs.Records.{headLength, outputKind, outputLength, outputOf}
+use Rattle.layout.specs.Places.{outputPlace, payloadOf, headAt, outputAt, operationsIn, outputsIn}
 use Rattle.layout.proofs.MatrixRefusal.{accepted-matrix}
 use Rattle.layout.proofs.MatrixRows.{matrix-length}
+use Rattle.layout.proofs.FirstRecords.{length-first}
 use Rattle.width.specs.Machine.{outputForm}
 use Rattle.width.specs.Table.{outputRow}
-use Rattle.reading.specs.Read.{recordRefusal, headAt, outputPlace, outputAt}
+use Rattle.width.specs.Netlist.{OutputOperand}
+use Rattle.reading.specs.Read.{recordRefusal}
 use Rattle.reading.specs.Check.{sameRow, rowsAnswer}
-use Rattle.reading.specs.Exact.{OutputLimits}
-use Rattle.reading.specs.Tests.{operationsIn, outputsIn}
+use Rattle.reading.specs.Exact.{readLimits}
 use Rattle.checker.specs.Tables.{NetlistHeld, SameSizes, RowReady, rowsMatched}
-use Rattle.reading.proofs.FirstRecords.{length-first}
 use Rattle.checker.proofs.NetlistLaws.{head-limits, output-there}
 use Rattle.checker.proofs.CheckLaws.{row-same, row-differs, rows-end, row-compared, row-ready}
 use Rattle.checker.proofs.check.rows_answer.Statement.{statement}
@@ -75,43 +78,38 @@ module _ (c : tie.In-loop Inv-loop μ-loop) where
   same : columns mx ≡ headAt b .n
   same = sizes .same-columns ∙ sizes .columns-read
 
-  few : (s .args .operations ≤ 504) × (i ≤ 8) × (n ≤ 8)
+  few : (s .args .operations ≤ maxOperations) × (i ≤ maxRows) × (n ≤ maxColumns)
   few = let h = head-limits b (H .read) in
-      (omega (arith, sizes .operations-read, h .few), omega (arith, inside, h .rows-most), omega (arith, sizes .columns-read, h .columns-most))
+      (omega (arith, sizes .operations-read, h .few), omega (arith, inside, h .limits .rows-most), omega (arith, sizes .columns-read, h .limits .columns-most))
 
-  index : i * n ≤ 64
+  index : i * n ≤ maxRows * maxColumns
   index = mul-le-mul (few .1) (few .2)
 
-  limits : OutputLimits (headAt b .n + headAt b .operations) o
-  limits = output-there b (H .read) i inside .1
+  limits : OutputOperand readLimits (headAt b .n + headAt b .operations) o
+  limits = output-there b (H .read) i inside .1 .operand
 
-  below : o .symbol < 512
-  below = let h = head-limits b (H .read) in omega (arith, limits .symbol, h .columns-most, h .few)
+  below : o .symbol < symbols
+  below = let h = head-limits b (H .read) in omega (arith, limits .symbol, h .limits .columns-most, h .few)
 
-mul-output-at : tie.Need-mul-output-at Inv-loop μ-loop
-mul-output-at c = omega (arith, few c)
+output-place-requires : tie.Need-output-place-requires Inv-loop μ-loop
+output-place-requires c κs = (omega arith, omega (arith, few c), omega (arith, few c))
 
-add-output-at : tie.Need-add-output-at Inv-loop μ-loop
-add-output-at c = omega (arith, few c)
-
-mul-output-at-2 : tie.Need-mul-output-at-2 Inv-loop μ-loop
-mul-output-at-2 c = omega (arith, few c)
-
-add-output-at-2 : tie.Need-add-output-at-2 Inv-loop μ-loop
-add-output-at-2 c = omega (arith, few c)
+placed : (c : tie.After-output-place Inv-loop μ-loop) → c .output-place .result ≡ outputPlace headLength (headAt (b (c .before)) .operations) (i (c .before))
+placed c = c .output-place .ensures ∙ ap (λ (k : ℕ). outputPlace headLength k (i (c .before))) (sizes (c .before) .operations-read)
 
 output-at-requires : tie.Need-output-at-requires Inv-loop μ-loop
-output-at-requires c κs = subst (λ (k : ℕ). recordRefusal (b c) (outputPlace k (i c)) 4 9 ≡ 0) (sym (sizes c .operations-read)) (output-there (b c) (H c .read) (i c) (inside c) .0)
+output-at-requires c κs = let d = c .before in
+    subst (λ (p : ℕ). recordRefusal (b d) p outputKind outputLength ≡ 0) (sym (placed c)) (output-there (b d) (H d .read) (i d) (inside d) .0)
 
 mul-same-row : tie.Need-mul-same-row Inv-loop μ-loop
-mul-same-row c = omega (arith, index (c .before))
+mul-same-row c = omega (arith, index (c .before .before))
 
 module _ (c : tie.After-output-at Inv-loop μ-loop) where
   abbrev d : tie.In-loop Inv-loop μ-loop
-  d = c .before
+  d = c .before .before
 
   read : c .output-at .result ≡ o d
-  read = c .output-at .ensures ∙ ap (λ (k : ℕ). outputAt (b d) k (i d)) (sizes d .operations-read)
+  read = c .output-at .ensures ∙ ap (λ (p : ℕ). outputOf (payloadOf (b d) p outputLength)) (placed (c .before))
 
   ready : RowReady (mx d) (i d * n d) (n d) (forms d) (o d)
   ready = subst (λ (x : ℕ). RowReady (mx d) (i d * x) x (forms d) (o d)) (sym (sizes d .columns-read))
@@ -119,7 +117,7 @@ module _ (c : tie.After-output-at Inv-loop μ-loop) where
 
 same-row-requires : tie.Need-same-row-requires Inv-loop μ-loop
 same-row-requires c κs = let D = d c in
-    subst (λ (p : Output). ((n D ≤ 8) × ((i D * n D ≤ 64) × (p .symbol < 512))) × RowReady (mx D) (i D * n D) (n D) (forms D) p) (sym (read c))
+    subst (λ (p : Output). ((n D ≤ maxColumns) × ((i D * n D ≤ maxRows * maxColumns) × (p .symbol < symbols))) × RowReady (mx D) (i D * n D) (n D) (forms D) p) (sym (read c))
     ((few D .2, (index D, below D)), ready c)
 
 module _ (c : tie.After-same-row Inv-loop μ-loop) where
@@ -165,10 +163,7 @@ rows-answer-spec =
     Inv-loop
     μ-loop
     loop-holds
-    mul-output-at
-    add-output-at
-    mul-output-at-2
-    add-output-at-2
+    output-place-requires
     output-at-requires
     mul-same-row
     same-row-requires

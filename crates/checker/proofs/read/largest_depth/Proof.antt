@@ -10,10 +10,10 @@ use Rattle.checker.proofs.read.largest_depth.Statement.{statement}
 use Rattle.checker.proofs.read.largest_depth.Tie as tie
 
 abbrev Inv-loop : tie.InvT-loop
-Inv-loop depths symbols depth₀ i₀ depth i = (i ≤ symbols) × (depth ≡ largest (take i depths))
+Inv-loop depths count depth₀ i₀ depth i = (i ≤ count) × (depth ≡ largest (take i depths))
 
 abbrev μ-loop : tie.MeasureT-loop
-μ-loop depths symbols depth₀ i₀ depth i = symbols - i
+μ-loop depths count depth₀ i₀ depth i = count - i
 
 loop-holds : tie.Need-loop-holds Inv-loop μ-loop
 loop-holds c = (omega arith, largest-none (c .args .depths .now))
@@ -38,7 +38,7 @@ loop-again c = let L = c .before .before .before in let t = L .before .args .dep
     rw add-one (omega arith, c .deeper .ensures ∙ ap (λ (x : ℕ). max x (getD t (L .loop .i) 0)) (L .loop .inv .1) ∙ largest-next t (L .loop .i) (omega arith))
 
 returns : tie.Need-returns Inv-loop μ-loop
-returns c = let L = c .before in let e : L .loop .i ≡ L .before .args .symbols = omega arith in L .loop .inv .1 ∙ ap (λ (j : ℕ). largest (take j (L .before .args .depths .now))) e
+returns c = let L = c .before in let e : L .loop .i ≡ L .before .args .count = omega arith in L .loop .inv .1 ∙ ap (λ (j : ℕ). largest (take j (L .before .args .depths .now))) e
 
 pub largest-depth-spec : {M : Type 1} → statement M
 largest-depth-spec =

@@ -1,15 +1,13 @@
 -- `checker::read::netlist` meets its contract. Assumes nothing.
 use mathlib.Core.Path.{_≡_, sym, ap, _∙_, subst}
-use Prim.Native.Nat.{ℕ, _+_, _*_}
+use Prim.Native.Nat.{ℕ}
 use mathlib.Core.List.{List}
 use Rattle.layout.specs.declared.Head.{Head}
-use Rattle.layout.specs.Records.{totalsOf}
-use Rattle.layout.specs.Step.{payloadAt}
+use Rattle.layout.specs.Places.{headAt, totalsAt, operationsIn, totalsPlaceIn, netlistIn}
 use Rattle.reading.specs.declared.ReadAnswer.{ReadAnswer}
-use Rattle.reading.specs.Read.{recordRefusal, headAt, headRefusal, readNetlist}
-use Rattle.reading.specs.Tests.{operationsIn, totalsPlace, netlistIn}
+use Rattle.reading.specs.Read.{headRefusal, readNetlist}
 use Rattle.checker.specs.Tables.{NetlistHeld}
-use Rattle.checker.proofs.RecordLaws.{head-due, stop-answer, totals-due}
+use Rattle.checker.proofs.RecordLaws.{head-due, stop-answer, totals-due, totalsRecord}
 use Rattle.checker.proofs.NetlistLaws.{head-declines, answer-refused, answer-accepted, answer-fields, place-is}
 use borrow.Author.Needs.{needs}
 use Rattle.checker.proofs.read.netlist.Statement.{statement}
@@ -45,23 +43,14 @@ returns-2 c = let r = c .before .before .before .records in let t = c .before .i
   λ z. absurd (t (sym (ap (λ (a : ReadAnswer). a .refusal) (c .refused2 .ensures)) ∙ z)),
 )
 
-cast-place : tie.Need-cast-place
-cast-place c = search needs
+cast-output-place : tie.Need-cast-output-place
+cast-output-place c = search needs
 
-mul-place : tie.Need-mul-place
-mul-place c = search needs
+cast-output-place-2 : tie.Need-cast-output-place-2
+cast-output-place-2 c = search needs
 
-add-place : tie.Need-add-place
-add-place c = search needs
-
-cast-place-2 : tie.Need-cast-place-2
-cast-place-2 c = search needs
-
-mul-place-2 : tie.Need-mul-place-2
-mul-place-2 c = search needs
-
-add-place-2 : tie.Need-add-place-2
-add-place-2 c = search needs
+output-place-requires : tie.Need-output-place-requires
+output-place-requires c κs = search needs
 
 module _ (c : tie.Else2) where
   abbrev r : tie.After-records
@@ -79,16 +68,16 @@ module _ (c : tie.Else2) where
   abbrev head : Head
   head = a .head-at .result
 
-  there : 8 + 12 * head .operations + 9 * head .m ≡ totalsPlace b
-  there = place-is b head (a .head-at .ensures)
+there : (c : tie.After-output-place) → c .output-place .result ≡ totalsPlaceIn (b (c .before .before .before))
+there c = let x = c .before .before .before in c .output-place .ensures ∙ place-is (b x) (head x) (a x .head-at .ensures)
 
 totals-at-requires : tie.Need-totals-at-requires
-totals-at-requires c κs = let x = c .before .before in
-    subst (λ (p : ℕ). recordRefusal (b x) p 5 8 ≡ 0) (sym (there x)) (totals-due (b x) (totalsPlace (b x)) (headAt (b x)) (operationsIn (b x)) (held x .read .totals-due))
+totals-at-requires c κs = let x = c .before .before .before in
+    subst (λ (p : ℕ). totalsRecord (b x) p ≡ 0) (sym (there c)) (totals-due (b x) (totalsPlaceIn (b x)) (headAt (b x)) (operationsIn (b x)) (held x .read .totals-due))
 
 returns-3 : tie.Need-returns-3
-returns-3 c = let x = c .before .before .before in (
-  answer-fields (b x) (head x) (c .totals-at .result) (a x .head-at .ensures) (c .totals-at .ensures ∙ ap (λ (p : ℕ). totalsOf (payloadAt (b x) p)) (there x))
+returns-3 c = let p = c .before in let x = p .before .before .before in (
+  answer-fields (b x) (head x) (c .totals-at .result) (a x .head-at .ensures) (c .totals-at .ensures ∙ ap (totalsAt (b x)) (there p))
       ∙ answer-accepted (b x) (netlistIn (b x)) (held x .read .netlist-read),
   λ z. held x,
 )
@@ -104,11 +93,8 @@ netlist-spec =
     records-requires
     refused-requires-2
     returns-2
-    cast-place
-    mul-place
-    add-place
-    cast-place-2
-    mul-place-2
-    add-place-2
+    cast-output-place
+    cast-output-place-2
+    output-place-requires
     totals-at-requires
     returns-3)

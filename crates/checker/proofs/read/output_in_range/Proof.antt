@@ -21,19 +21,25 @@ returns-3 : tie.Need-returns-3
 returns-3 c = sym (fails (outputInRange (c .before .before .before .before .before .before .args .symbols) (c .before .before .before .before .before .before .args .o)) (output-says (c .before .before .before .before .before .before .args .symbols) (c .before .before .before .before .before .before .args .o)) (λ l. omega arith))
 
 returns-4 : tie.Need-returns-4
-returns-4 c = sym (output-says (c .before .before .before .before .before .before .before .before .args .symbols) (c .before .before .before .before .before .before .before .before .args .o) .1 (record { sign = omega arith; shift = omega arith; symbol = omega arith; zero = λ z. absurd (omega arith) }))
+returns-4 c = sym (output-says (c .before .before .before .before .before .before .before .before .args .symbols) (c .before .before .before .before .before .before .before .before .args .o) .1 (record {
+  operand = record { sign = omega arith; shift = omega arith; symbol = omega arith; zero = λ z. absurd (omega arith) };
+  zero-width = λ z. absurd (omega arith);
+}))
 
 returns-5 : tie.Need-returns-5
-returns-5 c = sym (fails (outputInRange (c .before .before .before .before .before .before .before .before .before .before .args .symbols) (c .before .before .before .before .before .before .before .before .before .before .args .o)) (output-says (c .before .before .before .before .before .before .before .before .before .before .args .symbols) (c .before .before .before .before .before .before .before .before .before .before .args .o)) (λ l. c .if5 .taken (l .zero (omega arith) .0)))
+returns-5 c = sym (fails (outputInRange (c .before .before .before .before .before .before .before .before .before .before .args .symbols) (c .before .before .before .before .before .before .before .before .before .before .args .o)) (output-says (c .before .before .before .before .before .before .before .before .before .before .args .symbols) (c .before .before .before .before .before .before .before .before .before .before .args .o)) (λ l. c .if5 .taken (l .operand .zero (omega arith) .0)))
 
 returns-6 : tie.Need-returns-6
-returns-6 c = sym (fails (outputInRange (c .before .before .before .before .before .before .before .before .before .before .before .before .args .symbols) (c .before .before .before .before .before .before .before .before .before .before .before .before .args .o)) (output-says (c .before .before .before .before .before .before .before .before .before .before .before .before .args .symbols) (c .before .before .before .before .before .before .before .before .before .before .before .before .args .o)) (λ l. c .if6 .taken (l .zero (omega arith) .1)))
+returns-6 c = sym (fails (outputInRange (c .before .before .before .before .before .before .before .before .before .before .before .before .args .symbols) (c .before .before .before .before .before .before .before .before .before .before .before .before .args .o)) (output-says (c .before .before .before .before .before .before .before .before .before .before .before .before .args .symbols) (c .before .before .before .before .before .before .before .before .before .before .before .before .args .o)) (λ l. c .if6 .taken (l .operand .zero (omega arith) .1)))
 
 returns-7 : tie.Need-returns-7
-returns-7 c = sym (fails (outputInRange (c .before .before .before .before .before .before .before .before .before .before .before .before .before .before .args .symbols) (c .before .before .before .before .before .before .before .before .before .before .before .before .before .before .args .o)) (output-says (c .before .before .before .before .before .before .before .before .before .before .before .before .before .before .args .symbols) (c .before .before .before .before .before .before .before .before .before .before .before .before .before .before .args .o)) (λ l. c .if7 .taken (l .zero (omega arith) .2)))
+returns-7 c = sym (fails (outputInRange (c .before .before .before .before .before .before .before .before .before .before .before .before .before .before .args .symbols) (c .before .before .before .before .before .before .before .before .before .before .before .before .before .before .args .o)) (output-says (c .before .before .before .before .before .before .before .before .before .before .before .before .before .before .args .symbols) (c .before .before .before .before .before .before .before .before .before .before .before .before .before .before .args .o)) (λ l. c .if7 .taken (l .zero-width (omega arith))))
 
 returns-8 : tie.Need-returns-8
-returns-8 c = sym (output-says (c .before .before .before .before .before .before .before .before .before .before .before .before .before .before .args .symbols) (c .before .before .before .before .before .before .before .before .before .before .before .before .before .before .args .o) .1 (record { sign = omega arith; shift = omega arith; symbol = omega arith; zero = λ z. (c .before .before .before .before .if5 .left, c .before .before .if6 .left, c .if7 .left) }))
+returns-8 c = sym (output-says (c .before .before .before .before .before .before .before .before .before .before .before .before .before .before .args .symbols) (c .before .before .before .before .before .before .before .before .before .before .before .before .before .before .args .o) .1 (record {
+  operand = record { sign = omega arith; shift = omega arith; symbol = omega arith; zero = λ z. (c .before .before .before .before .if5 .left, c .before .before .if6 .left) };
+  zero-width = λ z. c .if7 .left;
+}))
 
 pub output-in-range-spec : {M : Type 1} → statement M
 output-in-range-spec =

@@ -6,32 +6,26 @@ use mathlib.Core.List.{List}
 use native.Mathlib.Omega.{arith}
 use lib.ListN.{length}
 use borrow.Author.Tests.{not-true, not-false}
+use Rattle.limits.specs.Limits.{sampleWidth}
 use Rattle.layout.specs.declared.Operation.{Operation}
 use Rattle.layout.specs.declared.Output.{Output}
+use Rattle.layout.specs.Records.{outputKind, outputLength, outputOf}
+use Rattle.layout.specs.Places.{payloadOf, operationAt, outputAt, firstOperations}
+use Rattle.layout.proofs.FirstRecords.{length-first}
 use Rattle.width.specs.Width.{width}
 use Rattle.width.specs.Table.{outputRow}
-use Rattle.reading.specs.Read.{recordRefusal, operationAt, outputPlace, outputAt, outputInRange, outputWidth, widthRight}
-use Rattle.reading.specs.Exact.{OutputLimits}
-use Rattle.checker.specs.Tables.{operationsBefore}
-use Rattle.reading.proofs.FirstRecords.{length-first}
+use Rattle.width.specs.Netlist.{OutputOperand}
+use Rattle.reading.specs.Read.{recordRefusal, outputInRange, outputWidth, widthRight}
+use Rattle.reading.specs.Exact.{readLimits}
 use Rattle.reading.proofs.Conditions.{output-says}
-use Rattle.checker.proofs.RecordLaws.{output-stops, output-outside, output-wide, output-accepted}
+use Rattle.checker.proofs.RecordLaws.{output-stops, output-outside, output-wide, output-accepted, outputRecord}
 use Rattle.checker.proofs.HeldLaws.{output-row-width, output-range}
 use borrow.Author.Needs.{needs}
 use Rattle.checker.proofs.read.output_refusal.Statement.{statement}
 use Rattle.checker.proofs.read.output_refusal.Tie as tie
 
-mul-place : tie.Need-mul-place
-mul-place c = search needs
-
-add-place : tie.Need-add-place
-add-place c = search needs
-
-mul-place-2 : tie.Need-mul-place-2
-mul-place-2 c = search needs
-
-add-place-2 : tie.Need-add-place-2
-add-place-2 c = search needs
+output-place-requires : tie.Need-output-place-requires
+output-place-requires c κs = search needs
 
 record-refusal-requires : tie.Need-record-refusal-requires
 record-refusal-requires c κs = search needs
@@ -50,13 +44,17 @@ module _ (s : tie.Start) where
   i = s .args .i
 
   abbrev os : List Operation
-  os = operationsBefore b k
+  os = firstOperations b k
 
-  counted : length (operationsBefore b k) ≡ k
+  counted : length (firstOperations b k) ≡ k
   counted = length-first (operationAt b) k
 
+-- at the output's place
+refusal-is : (c : tie.After-record-refusal) → let s = c .before .before .before in c .record-refusal .result ≡ outputRecord (b s) (k s) (i s)
+refusal-is c = c .record-refusal .ensures ∙ ap (λ (p : ℕ). recordRefusal (b (c .before .before .before)) p outputKind outputLength) (c .before .output-place .ensures)
+
 returns : tie.Need-returns
-returns c = let e = c .before .record-refusal .ensures in let s = c .before .before .before in e ∙ output-stops (b s) (n s) (k s) (os s) (counted s) (i s) (λ z. c .if1 .taken (e ∙ z))
+returns c = let e = refusal-is (c .before) in let s = c .before .before .before .before in e ∙ output-stops (b s) (n s) (k s) (os s) (counted s) (i s) (λ z. c .if1 .taken (e ∙ z))
 
 output-at-requires : tie.Need-output-at-requires
 output-at-requires c κs = search needs
@@ -69,17 +67,20 @@ output-in-range-requires c κs = search needs
 
 -- the output's record is there
 module _ (c : tie.After-output-in-range) where
+  abbrev r : tie.After-record-refusal
+  r = c .before .before .before
+
   abbrev s : tie.Start
-  s = c .before .before .before .before .before
+  s = r .before .before .before
 
   abbrev o : Output
   o = outputAt (b s) (k s) (i s)
 
-  due : recordRefusal (b s) (outputPlace (k s) (i s)) 4 9 ≡ 0
-  due = sym (c .before .before .before .record-refusal .ensures) ∙ c .before .before .if1 .left
+  due : outputRecord (b s) (k s) (i s) ≡ 0
+  due = sym (refusal-is r) ∙ c .before .before .if1 .left
 
   read : c .before .output-at .result ≡ outputAt (b s) (k s) (i s)
-  read = c .before .output-at .ensures
+  read = c .before .output-at .ensures ∙ ap (λ (p : ℕ). outputOf (payloadOf (b s) p outputLength)) (r .before .output-place .ensures)
 
   tested : outputInRange (n s + k s) (outputAt (b s) (k s) (i s)) ≡ c .output-in-range .result
   tested = sym (c .output-in-range .ensures ∙ ap (outputInRange (n s + k s)) read)
@@ -95,8 +96,8 @@ module _ (c : tie.Else2) where
   inside : outputInRange (n (s d) + k (s d)) (o d) ≡ true
   inside = tested d ∙ not-false _ (c .if2 .left)
 
-  limits : OutputLimits (n (s d) + k (s d)) (o d)
-  limits = output-says (n (s d) + k (s d)) (o d) .0 inside
+  limits : OutputOperand readLimits (n (s d) + k (s d)) (o d)
+  limits = output-says (n (s d) + k (s d)) (o d) .0 inside .operand
 
 output-width-requires : tie.Need-output-width-requires
 output-width-requires c κs = let S = s (d c) in let L = limits c in
@@ -113,7 +114,7 @@ module _ (c : tie.After-width-right) where
   S = s (d e)
 
   wide : c .before .output-width .result ≡ outputWidth (n S) (os S) (o (d e))
-  wide = c .before .output-width .ensures ∙ ap (λ (x : Output). width 16 (outputRow (S .args .forms .now) (n S) x)) (read (d e))
+  wide = c .before .output-width .ensures ∙ ap (λ (x : Output). width sampleWidth (outputRow (S .args .forms .now) (n S) x)) (read (d e))
       ∙ output-row-width (b S) (n S) (k S) (S .args .forms .now) (S .pre .1) (o (d e)) (limits e)
 
   compared : widthRight (o (d e) .width) (outputWidth (n S) (os S) (o (d e))) ≡ c .width-right .result
@@ -129,10 +130,7 @@ pub output-refusal-spec : {M : Type 1} → statement M
 output-refusal-spec =
     tie.close
     (tie.spec
-    mul-place
-    add-place
-    mul-place-2
-    add-place-2
+    output-place-requires
     record-refusal-requires
     returns
     output-at-requires

@@ -4,8 +4,9 @@ use Prim.Native.Nat.{ℕ, _-_, _≤_}
 use mathlib.Core.List.{List, []}
 use native.Mathlib.Omega.{arith}
 use native.Mathlib.Numerals.{add-one}
-use Rattle.reading.specs.Read.{accepted, readRecords, operationPlace, operationAt, operationRefusal}
-use Rattle.reading.specs.Tests.{firstRecords}
+use Rattle.layout.specs.Records.{headLength}
+use Rattle.layout.specs.Places.{operationPlace, operationAt, firstOperations}
+use Rattle.reading.specs.Read.{refused, accepted, readRecords, operationRefusal}
 use Rattle.checker.specs.Tables.{FormsHeld, DepthsHeld, refusalOf}
 use Rattle.checker.proofs.RecordLaws.{records-start, records-stop, records-next, records-end, stop-answer}
 use Rattle.checker.proofs.read.read_operations.Statement.{statement}
@@ -13,8 +14,8 @@ use Rattle.checker.proofs.read.read_operations.Tie as tie
 
 abbrev left : List ℕ → ℕ → ℕ → ℕ → Type 0
 left bytes n count k =
-    readRecords (operationRefusal bytes n) operationPlace (operationAt bytes) (count - k) (firstRecords (operationAt bytes) k)
-    ≡ readRecords (operationRefusal bytes n) operationPlace (operationAt bytes) count []
+    readRecords (operationRefusal bytes n) (operationPlace headLength) (operationAt bytes) (count - k) (firstOperations bytes k)
+    ≡ readRecords (operationRefusal bytes n) (operationPlace headLength) (operationAt bytes) count []
 
 abbrev Inv-loop : tie.InvT-loop
 Inv-loop bytes forms₀ depths₀ n count k₀ forms depths k =
@@ -31,16 +32,13 @@ cast-count c = omega arith
 
 loop-holds : tie.Need-loop-holds Inv-loop μ-loop
 loop-holds c = let s = c .before .before .before in
-    (omega arith, (s .pre .1 .0, (s .pre .1 .1, records-start (operationRefusal (s .args .bytes .now) (s .args .head .n)) operationPlace (operationAt (s .args .bytes .now)) (s .args .head .operations))))
+    (omega arith, (s .pre .1 .0, (s .pre .1 .1, records-start (operationRefusal (s .args .bytes .now) (s .args .head .n)) (operationPlace headLength) (operationAt (s .args .bytes .now)) (s .args .head .operations))))
 
 next-operation-requires : tie.Need-next-operation-requires Inv-loop μ-loop
 next-operation-requires c κs = let L = c .before .before .before in ((omega arith, omega arith), (L .loop .inv .1 .0, L .loop .inv .1 .1 .0))
 
-mul-t12 : tie.Need-mul-t12 Inv-loop μ-loop
-mul-t12 c = omega arith
-
-add-t13 : tie.Need-add-t13 Inv-loop μ-loop
-add-t13 c = omega arith
+operation-place-requires : tie.Need-operation-place-requires Inv-loop μ-loop
+operation-place-requires c κs = (omega arith, omega arith)
 
 module _ (c : tie.After-next-operation Inv-loop μ-loop) where
   abbrev L : tie.At-loop Inv-loop μ-loop
@@ -59,14 +57,14 @@ module _ (c : tie.After-next-operation Inv-loop μ-loop) where
   count = s .args .head .operations
 
 returns : tie.Need-returns Inv-loop μ-loop
-returns c = let d = c .before in record {
-  answer = stop-answer (readRecords (operationRefusal (b d) (n d)) operationPlace (operationAt (b d)) (count d) []) (d .next-operation .result)
-      (operationRefusal (b d) (n d) (firstRecords (operationAt (b d)) (L d .loop .k))) (operationPlace (L d .loop .k)) (d .next-operation .ensures .number)
-      (sym (L d .loop .inv .1 .1 .1) ∙ records-stop (operationRefusal (b d) (n d)) operationPlace (operationAt (b d)) (count d) (L d .loop .k) (omega arith)
-      (λ z. c .if1 .taken (d .next-operation .ensures .number ∙ z)));
-  all = λ z. absurd (c .if1 .taken z);
-  forms-held = λ z. absurd (c .if1 .taken z);
-  depths-held = λ z. absurd (c .if1 .taken z);
+returns c = let t = c .before in let d = t .before in let r = operationRefusal (b d) (n d) (firstOperations (b d) (L d .loop .k)) in record {
+  answer = stop-answer (readRecords (operationRefusal (b d) (n d)) (operationPlace headLength) (operationAt (b d)) (count d) []) (d .next-operation .result)
+      r (c .operation-place .result) (d .next-operation .ensures .number)
+      (sym (L d .loop .inv .1 .1 .1) ∙ records-stop (operationRefusal (b d) (n d)) (operationPlace headLength) (operationAt (b d)) (count d) (L d .loop .k) (omega arith)
+      (λ z. t .if1 .taken (d .next-operation .ensures .number ∙ z)) ∙ ap (refused r) (sym (c .operation-place .ensures)));
+  all = λ z. absurd (t .if1 .taken z);
+  forms-held = λ z. absurd (t .if1 .taken z);
+  depths-held = λ z. absurd (t .if1 .taken z);
 }
 
 add-k : tie.Need-add-k Inv-loop μ-loop
@@ -83,7 +81,7 @@ loop-again c = let d = c .before in let r = d .next-operation .ensures in
         r .forms-held (c .if1 .left),
         (
           r .depths-held (c .if1 .left),
-          sym (records-next (operationRefusal (b d) (n d)) operationPlace (operationAt (b d)) (count d) (L d .loop .k) (omega arith) (sym (r .number) ∙ c .if1 .left))
+          sym (records-next (operationRefusal (b d) (n d)) (operationPlace headLength) (operationAt (b d)) (count d) (L d .loop .k) (omega arith) (sym (r .number) ∙ c .if1 .left))
               ∙ L d .loop .inv .1 .1 .1,
         ),
       ),
@@ -99,14 +97,14 @@ module _ (c : tie.After-loop Inv-loop μ-loop) where
   at-end : l .loop .k ≡ s' .args .head .operations
   at-end = omega arith
 
-  ended : readRecords (operationRefusal (s' .args .bytes .now) (s' .args .head .n)) operationPlace (operationAt (s' .args .bytes .now)) (s' .args .head .operations) []
-      ≡ accepted (firstRecords (operationAt (s' .args .bytes .now)) (l .loop .k))
-  ended = sym (l .loop .inv .1 .1 .1) ∙ records-end (operationRefusal (s' .args .bytes .now) (s' .args .head .n)) operationPlace (operationAt (s' .args .bytes .now)) (s' .args .head .operations) (l .loop .k) (omega arith)
+  ended : readRecords (operationRefusal (s' .args .bytes .now) (s' .args .head .n)) (operationPlace headLength) (operationAt (s' .args .bytes .now)) (s' .args .head .operations) []
+      ≡ accepted (firstOperations (s' .args .bytes .now) (l .loop .k))
+  ended = sym (l .loop .inv .1 .1 .1) ∙ records-end (operationRefusal (s' .args .bytes .now) (s' .args .head .n)) (operationPlace headLength) (operationAt (s' .args .bytes .now)) (s' .args .head .operations) (l .loop .k) (omega arith)
 
 returns-2 : tie.Need-returns-2 Inv-loop μ-loop
 returns-2 c = record {
   answer = sym (ap refusalOf (ended c));
-  all = λ z. ended c ∙ ap (λ (j : ℕ). accepted (firstRecords (operationAt (s' c .args .bytes .now)) j)) (at-end c);
+  all = λ z. ended c ∙ ap (λ (j : ℕ). accepted (firstOperations (s' c .args .bytes .now) j)) (at-end c);
   forms-held = λ z. subst (λ (j : ℕ). FormsHeld (s' c .args .bytes .now) (s' c .args .head .n) j (l c .loop .forms)) (at-end c) (l c .loop .inv .1 .0);
   depths-held = λ z. subst (λ (j : ℕ). DepthsHeld (s' c .args .bytes .now) (s' c .args .head .n) j (l c .loop .depths)) (at-end c) (l c .loop .inv .1 .1 .0);
 }
@@ -121,8 +119,7 @@ read-operations-spec =
     cast-count
     loop-holds
     next-operation-requires
-    mul-t12
-    add-t13
+    operation-place-requires
     returns
     add-k
     loop-less

@@ -6,26 +6,27 @@ use native.Mathlib.Omega.{arith}
 use native.Mathlib.Numerals.{add-one}
 use lib.ListN.{length}
 use Rattle.layout.specs.declared.Output.{Output}
-use Rattle.reading.specs.Read.{Reading, refused, accepted, readRecords, operationAt, outputPlace, outputAt, outputRefusal}
-use Rattle.reading.specs.Tests.{firstRecords}
-use Rattle.checker.specs.Tables.{operationsBefore, refusalOf}
-use Rattle.reading.proofs.FirstRecords.{length-first}
+use Rattle.layout.specs.Records.{headLength}
+use Rattle.layout.specs.Places.{outputPlace, operationAt, outputAt, firstOperations, firstOutputs}
+use Rattle.layout.proofs.FirstRecords.{length-first}
+use Rattle.reading.specs.Read.{Reading, refused, accepted, readRecords, outputRefusal}
+use Rattle.checker.specs.Tables.{refusalOf}
 use Rattle.checker.proofs.RecordLaws.{records-start, records-stop, records-next, records-end, stop-answer}
 use Rattle.checker.proofs.read.read_outputs.Statement.{statement}
 use Rattle.checker.proofs.read.read_outputs.Tie as tie
 
 abbrev refusalAt : List ℕ → ℕ → ℕ → List Output → ℕ
-refusalAt bytes n operations outputs = outputRefusal bytes n (operationsBefore bytes operations) (length outputs)
+refusalAt bytes n operations outputs = outputRefusal bytes n (firstOperations bytes operations) (length outputs)
 
 abbrev counted : List ℕ → ℕ → ℕ
-counted bytes operations = length (operationsBefore bytes operations)
+counted bytes operations = length (firstOperations bytes operations)
 
 abbrev reading : List ℕ → ℕ → ℕ → ℕ → List Output → Reading (List Output)
 reading bytes n operations k outputs =
-    readRecords (refusalAt bytes n operations) (outputPlace (counted bytes operations)) (outputAt bytes (counted bytes operations)) k outputs
+    readRecords (refusalAt bytes n operations) (outputPlace headLength (counted bytes operations)) (outputAt bytes (counted bytes operations)) k outputs
 
 abbrev first : List ℕ → ℕ → ℕ → List Output
-first bytes operations i = firstRecords (outputAt bytes (counted bytes operations)) i
+first bytes operations i = firstOutputs bytes (counted bytes operations) i
 
 abbrev Inv-loop : tie.InvT-loop
 Inv-loop bytes forms n operations m i₀ i = (i ≤ m) × (reading bytes n operations (m - i) (first bytes operations i) ≡ reading bytes n operations m [])
@@ -34,12 +35,12 @@ abbrev μ-loop : tie.MeasureT-loop
 μ-loop bytes forms n operations m i₀ i = m - i
 
 -- output i's refusal is that of the outputs before it
-refusal-is : (bytes : List ℕ) (n operations i : ℕ) → outputRefusal bytes n (operationsBefore bytes operations) i ≡ refusalAt bytes n operations (first bytes operations i)
+refusal-is : (bytes : List ℕ) (n operations i : ℕ) → outputRefusal bytes n (firstOperations bytes operations) i ≡ refusalAt bytes n operations (first bytes operations i)
 refusal-is bytes n operations i =
-    ap (outputRefusal bytes n (operationsBefore bytes operations)) (sym (length-first (outputAt bytes (counted bytes operations)) i))
+    ap (outputRefusal bytes n (firstOperations bytes operations)) (sym (length-first (outputAt bytes (counted bytes operations)) i))
 
-place-is : (bytes : List ℕ) (operations i : ℕ) → outputPlace (counted bytes operations) i ≡ outputPlace operations i
-place-is bytes operations i = ap (λ (k : ℕ). outputPlace k i) (length-first (operationAt bytes) operations)
+place-is : (bytes : List ℕ) (operations i : ℕ) → outputPlace headLength (counted bytes operations) i ≡ outputPlace headLength operations i
+place-is bytes operations i = ap (λ (k : ℕ). outputPlace headLength k i) (length-first (operationAt bytes) operations)
 
 cast-n : tie.Need-cast-n Inv-loop μ-loop
 cast-n c = omega arith
@@ -52,22 +53,13 @@ cast-m c = omega arith
 
 loop-holds : tie.Need-loop-holds Inv-loop μ-loop
 loop-holds c = let s = c .before .before .before .before in let b = s .args .bytes .now in let k = s .args .head .operations in
-    (omega arith, records-start (refusalAt b (s .args .head .n) k) (outputPlace (counted b k)) (outputAt b (counted b k)) (s .args .head .m))
+    (omega arith, records-start (refusalAt b (s .args .head .n) k) (outputPlace headLength (counted b k)) (outputAt b (counted b k)) (s .args .head .m))
 
 output-refusal-requires : tie.Need-output-refusal-requires Inv-loop μ-loop
 output-refusal-requires c κs = let s = c .before .before .before .before .before .before in ((omega arith, (omega arith, omega arith)), s .pre .1)
 
-mul-t10 : tie.Need-mul-t10 Inv-loop μ-loop
-mul-t10 c = omega arith
-
-add-t11 : tie.Need-add-t11 Inv-loop μ-loop
-add-t11 c = omega arith
-
-mul-t12 : tie.Need-mul-t12 Inv-loop μ-loop
-mul-t12 c = omega arith
-
-add-t13 : tie.Need-add-t13 Inv-loop μ-loop
-add-t13 c = omega arith
+output-place-requires : tie.Need-output-place-requires Inv-loop μ-loop
+output-place-requires c κs = (omega arith, omega arith, omega arith)
 
 module _ (c : tie.After-output-refusal Inv-loop μ-loop) where
   abbrev L : tie.At-loop Inv-loop μ-loop
@@ -92,12 +84,11 @@ module _ (c : tie.After-output-refusal Inv-loop μ-loop) where
   number = c .output-refusal .ensures ∙ refusal-is b n k (L .loop .i)
 
 returns : tie.Need-returns Inv-loop μ-loop
-returns c = let d = c .before in record {
-  answer = stop-answer (reading (b d) (n d) (k d) (m d) []) (d .output-refusal .result) (refusalAt (b d) (n d) (k d) (first (b d) (k d) (L d .loop .i)))
-      (outputPlace (k d) (L d .loop .i)) (number d)
-      (sym (L d .loop .inv .1) ∙ records-stop (refusalAt (b d) (n d) (k d)) (outputPlace (counted (b d) (k d))) (outputAt (b d) (counted (b d) (k d))) (m d) (L d .loop .i) (omega arith)
-      (λ z. c .if1 .taken (number d ∙ z)) ∙ ap (refused (refusalAt (b d) (n d) (k d) (first (b d) (k d) (L d .loop .i)))) (place-is (b d) (k d) (L d .loop .i)));
-  all = λ z. absurd (c .if1 .taken z);
+returns c = let t = c .before in let d = t .before in let r = refusalAt (b d) (n d) (k d) (first (b d) (k d) (L d .loop .i)) in record {
+  answer = stop-answer (reading (b d) (n d) (k d) (m d) []) (d .output-refusal .result) r (c .output-place .result) (number d)
+      (sym (L d .loop .inv .1) ∙ records-stop (refusalAt (b d) (n d) (k d)) (outputPlace headLength (counted (b d) (k d))) (outputAt (b d) (counted (b d) (k d))) (m d) (L d .loop .i) (omega arith)
+      (λ z. t .if1 .taken (number d ∙ z)) ∙ ap (refused r) (place-is (b d) (k d) (L d .loop .i) ∙ sym (c .output-place .ensures)));
+  all = λ z. absurd (t .if1 .taken z);
 }
 
 add-i : tie.Need-add-i Inv-loop μ-loop
@@ -110,7 +101,7 @@ loop-again : tie.Need-loop-again Inv-loop μ-loop
 loop-again c = let d = c .before in
     rw add-one (
       omega arith,
-      sym (records-next (refusalAt (b d) (n d) (k d)) (outputPlace (counted (b d) (k d))) (outputAt (b d) (counted (b d) (k d))) (m d) (L d .loop .i) (omega arith)
+      sym (records-next (refusalAt (b d) (n d) (k d)) (outputPlace headLength (counted (b d) (k d))) (outputAt (b d) (counted (b d) (k d))) (m d) (L d .loop .i) (omega arith)
           (sym (number d) ∙ c .if1 .left)) ∙ L d .loop .inv .1,
     )
 
@@ -131,7 +122,7 @@ module _ (c : tie.After-loop Inv-loop μ-loop) where
   at-end = omega arith
 
   ended : reading b' (s' .args .head .n) k' (s' .args .head .m) [] ≡ accepted (first b' k' (l .loop .i))
-  ended = sym (l .loop .inv .1) ∙ records-end (refusalAt b' (s' .args .head .n) k') (outputPlace (counted b' k')) (outputAt b' (counted b' k')) (s' .args .head .m) (l .loop .i) (omega arith)
+  ended = sym (l .loop .inv .1) ∙ records-end (refusalAt b' (s' .args .head .n) k') (outputPlace headLength (counted b' k')) (outputAt b' (counted b' k')) (s' .args .head .m) (l .loop .i) (omega arith)
 
 returns-2 : tie.Need-returns-2 Inv-loop μ-loop
 returns-2 c = record {
@@ -150,10 +141,7 @@ read-outputs-spec =
     cast-m
     loop-holds
     output-refusal-requires
-    mul-t10
-    add-t11
-    mul-t12
-    add-t13
+    output-place-requires
     returns
     add-i
     loop-less

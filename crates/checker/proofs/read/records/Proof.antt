@@ -1,14 +1,16 @@
 -- `checker::read::records` meets its contract. Assumes nothing.
 use mathlib.Core.Path.{_≡_, refl, sym, ap, _∙_, subst}
-use Prim.Native.Nat.{ℕ, _+_, _*_}
+use Prim.Native.Nat.{ℕ, _+_}
 use mathlib.Core.List.{List}
 use native.Mathlib.Omega.{arith}
 use lib.IntN.{ℤ}
 use Rattle.layout.specs.declared.Head.{Head}
-use Rattle.reading.specs.Read.{refused, accepted, headAt, headRefusal, readOperations, readOutputs, readNetlist, totalsRefusal}
-use Rattle.reading.specs.Exact.{HeadLimits}
-use Rattle.reading.specs.Tests.{operationsIn, outputsIn, totalsPlace, netlistIn}
-use Rattle.checker.specs.Tables.{operationsBefore, FormsHeld, OperationsRead, OutputsRead, refusalOf}
+use Rattle.layout.specs.Records.{totalsLength}
+use Rattle.layout.specs.Places.{headAt, firstOperations, operationsIn, outputsIn, totalsPlaceIn, netlistIn}
+use Rattle.width.specs.Netlist.{HeadLimits}
+use Rattle.reading.specs.Read.{refused, accepted, headRefusal, readOperations, readOutputs, readNetlist, totalsRefusal}
+use Rattle.reading.specs.Exact.{readLimits}
+use Rattle.checker.specs.Tables.{FormsHeld, OperationsRead, OutputsRead, refusalOf}
 use Rattle.checker.proofs.RecordLaws.{head-due, stop-answer}
 use Rattle.checker.proofs.HeldLaws.{forms-started, depths-started}
 use Rattle.checker.proofs.NetlistLaws.{declined, operations-decline, outputs-decline, totals-decline, leftover, all-accepted, place-is}
@@ -29,21 +31,21 @@ module _ (s : tie.Start) where
   fields : h ≡ headAt b
   fields = s .pre .0 .fields
 
-  limits : HeadLimits h
-  limits = subst HeadLimits (sym fields) (head-due b due .1)
+  limits : HeadLimits readLimits h
+  limits = subst (HeadLimits readLimits) (sym fields) (head-due b due .1)
 
 cast-n : tie.Need-cast-n
 cast-n c = search needs
 
 start-forms-requires : tie.Need-start-forms-requires
-start-forms-requires c κs = limits (c .before .before .before) .columns-most
+start-forms-requires c κs = limits (c .before .before .before) .limits .columns-most
 
 read-operations-requires : tie.Need-read-operations-requires
 read-operations-requires c κs = let f = c .before .before in let s = f .before .before .before .before in let l = limits s in (
-  (l .columns-most, l .few),
+  (l .limits .columns-most, l .few),
   (
-    subst (FormsHeld (b s) (h s .n) 0) (sym (f .start-forms .ensures)) (forms-started (b s) (h s .n) (l .columns-most) (s .args .forms .now) (s .pre .1 .0)),
-    depths-started (b s) (h s .n) (l .columns-most) (s .args .depths .now) (s .pre .1 .1),
+    subst (FormsHeld (b s) (h s .n) 0) (sym (f .start-forms .ensures)) (forms-started (b s) (h s .n) (l .limits .columns-most) (s .args .forms .now) (s .pre .1 .0)),
+    depths-started (b s) (h s .n) (l .limits .columns-most) (s .args .depths .now) (s .pre .1 .1),
   ),
 )
 
@@ -66,7 +68,7 @@ returns c = let d = c .before .before in record {
 
 read-outputs-requires : tie.Need-read-outputs-requires
 read-outputs-requires c κs = let d = c .before .before .before in let l = limits (s d) in
-    ((l .columns-most, (l .rows-most, l .few)), d .read-operations .ensures .forms-held (c .before .if1 .left))
+    ((l .limits .columns-most, (l .limits .rows-most, l .few)), d .read-operations .ensures .forms-held (c .before .if1 .left))
 
 -- the outputs
 module _ (c : tie.After-read-outputs) where
@@ -83,7 +85,7 @@ module _ (c : tie.After-read-outputs) where
   all = operations d .all (e .if1 .left)
 
   outputs : OutputsRead (b S) (headAt (b S)) (operationsIn (b S)) (c .read-outputs .result)
-  outputs = subst (λ (x : Head). OutputsRead (b S) x (operationsBefore (b S) (x .operations)) (c .read-outputs .result)) (fields S) (c .read-outputs .ensures)
+  outputs = subst (λ (x : Head). OutputsRead (b S) x (firstOperations (b S) (x .operations)) (c .read-outputs .result)) (fields S) (c .read-outputs .ensures)
 
 returns-2 : tie.Need-returns-2
 returns-2 c = let o = c .before .before in let b' = b (S o) in record {
@@ -92,32 +94,26 @@ returns-2 c = let o = c .before .before in let b' = b (S o) in record {
   held = λ z. absurd (c .if2 .taken z);
 }
 
-cast-place : tie.Need-cast-place
-cast-place c = search needs
+cast-output-place : tie.Need-cast-output-place
+cast-output-place c = search needs
 
-mul-place : tie.Need-mul-place
-mul-place c = search needs
+cast-output-place-2 : tie.Need-cast-output-place-2
+cast-output-place-2 c = search needs
 
-add-place : tie.Need-add-place
-add-place c = search needs
-
-cast-place-2 : tie.Need-cast-place-2
-cast-place-2 c = search needs
-
-mul-place-2 : tie.Need-mul-place-2
-mul-place-2 c = search needs
-
-add-place-2 : tie.Need-add-place-2
-add-place-2 c = search needs
+output-place-requires : tie.Need-output-place-requires
+output-place-requires c κs = search needs
 
 totals-refusal-requires : tie.Need-totals-refusal-requires
-totals-refusal-requires c κs = let o = c .before .before .before .before .before in let l = limits (S o) in
-    ((l .columns-most, l .few), d o .read-operations .ensures .depths-held (e o .if1 .left))
+totals-refusal-requires c κs = let o = c .before .before .before .before .before .before in let l = limits (S o) in
+    ((l .limits .columns-most, l .few), d o .read-operations .ensures .depths-held (e o .if1 .left))
 
 -- the totals
 module _ (c : tie.After-totals-refusal) where
+  abbrev p : tie.After-output-place
+  p = c .before .before
+
   abbrev x : tie.Else2
-  x = c .before .before .before .before
+  x = p .before .before .before
 
   abbrev o : tie.After-read-outputs
   o = x .before .before
@@ -132,18 +128,18 @@ module _ (c : tie.After-totals-refusal) where
   rows = outputs o .all (x .if2 .left)
 
   abbrev place : ℕ
-  place = 8 + 12 * H .operations + 9 * H .m
+  place = p .output-place .result
 
-  there : place ≡ totalsPlace B
-  there = place-is B H (fields (S o))
+  there : place ≡ totalsPlaceIn B
+  there = p .output-place .ensures ∙ place-is B H (fields (S o))
 
-  number : c .totals-refusal .result ≡ totalsRefusal B (totalsPlace B) (headAt B) (operationsIn B)
+  number : c .totals-refusal .result ≡ totalsRefusal B (totalsPlaceIn B) (headAt B) (operationsIn B)
   number = c .totals-refusal .ensures
-      ∙ ap (λ (p : ℕ). totalsRefusal B p H (operationsBefore B (H .operations))) there
-      ∙ ap (λ (y : Head). totalsRefusal B (totalsPlace B) y (operationsBefore B (y .operations))) (fields (S o))
+      ∙ ap (λ (p : ℕ). totalsRefusal B p H (firstOperations B (H .operations))) there
+      ∙ ap (λ (y : Head). totalsRefusal B (totalsPlaceIn B) y (firstOperations B (y .operations))) (fields (S o))
 
 returns-3 : tie.Need-returns-3
-returns-3 c = let t = c .before in let last = totalsRefusal (B t) (totalsPlace (B t)) (headAt (B t)) (operationsIn (B t)) in record {
+returns-3 c = let t = c .before in let last = totalsRefusal (B t) (totalsPlaceIn (B t)) (headAt (B t)) (operationsIn (B t)) in record {
   answer = stop-answer (readNetlist (B t)) (t .totals-refusal .result) last (place t) (number t)
       (totals-decline (B t) (due (S (o t))) (all (o t)) (rows t) (λ z. c .if3 .taken (number t ∙ z)) ∙ ap (refused last) (sym (there t)));
   held = λ z. absurd (c .if3 .taken z);
@@ -152,20 +148,20 @@ returns-3 c = let t = c .before in let last = totalsRefusal (B t) (totalsPlace (
 add-if4 : tie.Need-add-if4
 add-if4 c = search needs
 
-add-t22 : tie.Need-add-t22
-add-t22 c = search needs
+add-t19 : tie.Need-add-t19
+add-t19 c = search needs
 
 module _ (c : tie.Else3) where
   abbrev t : tie.After-totals-refusal
   t = c .before
 
-  right : totalsRefusal (B t) (totalsPlace (B t)) (headAt (B t)) (operationsIn (B t)) ≡ 0
+  right : totalsRefusal (B t) (totalsPlaceIn (B t)) (headAt (B t)) (operationsIn (B t)) ≡ 0
   right = sym (number t) ∙ c .if3 .left
 
 returns-4 : tie.Need-returns-4
 returns-4 c = let y = c .before in let T = t y in record {
-  answer = stop-answer (readNetlist (B T)) 12 12 (place T + 8) refl
-      (leftover (B T) (due (S (o T))) (all (o T)) (rows T) (right y) (omega (arith, there T, c .if4 .taken)) ∙ ap (λ (p : ℕ). refused 12 (p + 8)) (sym (there T)));
+  answer = stop-answer (readNetlist (B T)) 12 12 (place T + totalsLength) refl
+      (leftover (B T) (due (S (o T))) (all (o T)) (rows T) (right y) (omega (arith, there T, c .if4 .taken)) ∙ ap (λ (p : ℕ). refused 12 (p + totalsLength)) (sym (there T)));
   held = λ z. absurd (omega arith);
 }
 
@@ -205,15 +201,12 @@ records-spec =
     returns
     read-outputs-requires
     returns-2
-    cast-place
-    mul-place
-    add-place
-    cast-place-2
-    mul-place-2
-    add-place-2
+    cast-output-place
+    cast-output-place-2
+    output-place-requires
     totals-refusal-requires
     returns-3
     add-if4
-    add-t22
+    add-t19
     returns-4
     returns-5)

@@ -5,10 +5,9 @@ use mathlib.Core.List.{List}
 use Rattle.layout.specs.declared.Head.{Head}
 use Rattle.layout.specs.declared.Operation.{Operation}
 use Rattle.layout.specs.declared.Totals.{Totals}
+use Rattle.layout.specs.Places.{totalsAt, firstOperations}
 use Rattle.width.specs.Machine.{depth}
-use Rattle.reading.specs.Read.{recordRefusal, totalsAt}
-use Rattle.checker.specs.Tables.{operationsBefore}
-use Rattle.checker.proofs.RecordLaws.{totals-stop, totals-differ, totals-accepted}
+use Rattle.checker.proofs.RecordLaws.{totals-stop, totals-differ, totals-accepted, totalsRecord}
 use Rattle.checker.proofs.HeldLaws.{depth-held}
 use borrow.Author.Needs.{needs}
 use Rattle.checker.proofs.read.totals_refusal.Statement.{statement}
@@ -25,7 +24,7 @@ module _ (s : tie.Start) where
   h = s .args .head
 
   abbrev os : List Operation
-  os = operationsBefore b (h .operations)
+  os = firstOperations b (h .operations)
 
 record-refusal-requires : tie.Need-record-refusal-requires
 record-refusal-requires c κs = search needs
@@ -40,7 +39,7 @@ module _ (c : tie.After-totals-at) where
   abbrev s : tie.Start
   s = c .before .before .before .before
 
-  due : recordRefusal (b s) (place s) 5 8 ≡ 0
+  due : totalsRecord (b s) (place s) ≡ 0
   due = sym (c .before .before .record-refusal .ensures) ∙ c .before .if1 .left
 
   count-is : c .totals-at .result .operations ≡ totalsAt (b s) (place s) .operations

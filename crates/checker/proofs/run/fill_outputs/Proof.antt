@@ -10,14 +10,17 @@ use lib.Seq.{sets}
 use lib.Signed.{mag}
 use mir.Syntax.{w64}
 use mir.Val.{SFits, toZ, ofZ}
+use Rattle.limits.specs.Limits.{maxRows, maxOperations, symbols}
 use Rattle.integers.proofs.Held.{is, held, call-result}
 use Rattle.layout.specs.declared.Output.{Output}
+use Rattle.layout.specs.Records.{headLength, outputKind, outputLength, outputOf}
+use Rattle.layout.specs.Places.{outputPlace, payloadOf, headAt, outputAt, outputsIn}
 use Rattle.width.specs.Machine.{entryAt, shifted, withSign, outputValue}
 use Rattle.width.specs.Table.{Small}
+use Rattle.width.specs.Netlist.{OutputOperand}
 use Rattle.width.proofs.TableLaws.{sets-none}
-use Rattle.reading.specs.Read.{recordRefusal, headAt, outputPlace, outputAt}
-use Rattle.reading.specs.Exact.{OutputLimits}
-use Rattle.reading.specs.Tests.{outputsIn}
+use Rattle.reading.specs.Read.{recordRefusal}
+use Rattle.reading.specs.Exact.{readLimits}
 use Rattle.checker.specs.Tables.{NetlistRead}
 use Rattle.checker.proofs.NetlistLaws.{head-limits, output-there}
 use Rattle.checker.proofs.BoardLaws.{result-at, results-count, set-next, all-set}
@@ -59,39 +62,31 @@ module _ (c : tie.In-loop Inv-loop μ-loop) where
   inside : i < headAt b .m
   inside = omega (arith, s .pre .1 .0 .0, c .loop-test .taken)
 
-  few : (s .args .operations ≤ 504) × (i < 8)
-  few = (omega (arith, s .pre .1 .0 .1 .0, head-limits b N .few), omega (arith, inside, head-limits b N .rows-most))
+  few : (s .args .operations ≤ maxOperations) × (i < maxRows)
+  few = (omega (arith, s .pre .1 .0 .1 .0, head-limits b N .few), omega (arith, inside, head-limits b N .limits .rows-most))
 
-  place : outputPlace (s .args .operations) i ≡ outputPlace (headAt b .operations) i
-  place = ap (λ (k : ℕ). outputPlace k i) (s .pre .1 .0 .1 .0)
+  limits : OutputOperand readLimits (headAt b .n + headAt b .operations) o
+  limits = output-there b N i inside .1 .operand
 
-  limits : OutputLimits (headAt b .n + headAt b .operations) o
-  limits = output-there b N i inside .1
+  below : o .symbol < symbols
+  below = omega (arith, limits .symbol, head-limits b N .limits .columns-most, head-limits b N .few)
 
-  below : o .symbol < 512
-  below = omega (arith, limits .symbol, head-limits b N .columns-most, head-limits b N .few)
+output-place-requires : tie.Need-output-place-requires Inv-loop μ-loop
+output-place-requires c κs = (omega arith, omega (arith, few c), omega (arith, few c))
 
-mul-output-at : tie.Need-mul-output-at Inv-loop μ-loop
-mul-output-at c = omega (arith, few c)
-
-add-output-at : tie.Need-add-output-at Inv-loop μ-loop
-add-output-at c = omega (arith, few c)
-
-mul-output-at-2 : tie.Need-mul-output-at-2 Inv-loop μ-loop
-mul-output-at-2 c = omega (arith, few c)
-
-add-output-at-2 : tie.Need-add-output-at-2 Inv-loop μ-loop
-add-output-at-2 c = omega (arith, few c)
+placed : (c : tie.After-output-place Inv-loop μ-loop) → c .output-place .result ≡ outputPlace headLength (headAt (b (c .before)) .operations) (i (c .before))
+placed c = c .output-place .ensures ∙ ap (λ (k : ℕ). outputPlace headLength k (i (c .before))) (s (c .before) .pre .1 .0 .1 .0)
 
 output-at-requires : tie.Need-output-at-requires Inv-loop μ-loop
-output-at-requires c κs = subst (λ (p : ℕ). recordRefusal (b c) p 4 9 ≡ 0) (sym (place c)) (output-there (b c) (N c) (i c) (inside c) .0)
+output-at-requires c κs = let d = c .before in
+    subst (λ (p : ℕ). recordRefusal (b d) p outputKind outputLength ≡ 0) (sym (placed c)) (output-there (b d) (N d) (i d) (inside d) .0)
 
 module _ (c : tie.After-output-at Inv-loop μ-loop) where
   abbrev d : tie.In-loop Inv-loop μ-loop
-  d = c .before
+  d = c .before .before
 
   read : c .output-at .result ≡ o d
-  read = c .output-at .ensures ∙ ap (λ (k : ℕ). outputAt (b d) k (i d)) (s d .pre .1 .0 .1 .0)
+  read = c .output-at .ensures ∙ ap (λ (p : ℕ). outputOf (payloadOf (b d) p outputLength)) (placed (c .before))
 
   symbol-is : c .output-at .result .symbol ≡ o d .symbol
   symbol-is = ap (λ (x : Output). x .symbol) read
@@ -116,13 +111,13 @@ module _ (values : List ℤ) (p : Output) (fx : SFits w64 (entryAt values (p .sy
 output-value-requires : tie.Need-output-value-requires Inv-loop μ-loop
 output-value-requires c κs = let a = c .before .before in let S = s (d a) in
     asked (S .args .values .now) (a .output-at .result) (record { sfits = c .x .given })
-    (subst (λ (p : Output). Small (entryAt (S .args .values .now) (p .symbol)) (p .shift)) (sym (read a)) (S .pre .1 .1 .small (o (d a) .symbol) (o (d a) .shift) (limits (d a) .symbol) (limits (d a) .shift)))
+    (subst (λ (p : Output). Small (entryAt (S .args .values .now) (p .symbol)) (p .shift)) (sym (read a)) (S .pre .1 .1 .small (o (d a) .symbol) (o (d a) .shift) (limits (d a) .symbol) (omega (arith, limits (d a) .shift))))
 
 mul-y : tie.Need-mul-y Inv-loop μ-loop
 mul-y c = omega (arith, few (d (c .before .before .before)))
 
 slice-set-from-y : tie.Need-slice-set-from-y Inv-loop μ-loop
-slice-set-from-y c = omega (arith, c .before .before .before .before .before .loop .inv .1 .0)
+slice-set-from-y c = omega (arith, l (d (c .before .before .before)) .loop .inv .1 .0)
 
 add-i : tie.Need-add-i Inv-loop μ-loop
 add-i c = omega (arith, few (d (c .before .before .before)))
@@ -158,10 +153,7 @@ fill-outputs-spec =
     Inv-loop
     μ-loop
     loop-holds
-    mul-output-at
-    add-output-at
-    mul-output-at-2
-    add-output-at-2
+    output-place-requires
     output-at-requires
     cast-symbol
     mul-x

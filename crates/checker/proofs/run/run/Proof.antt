@@ -5,11 +5,12 @@ use mathlib.Core.List.{List}
 use native.Mathlib.Omega.{arith}
 use lib.IntN.{ℤ, pos}
 use lib.ListN.{length, take}
+use Rattle.limits.specs.Limits.{sampleWidth, symbols}
+use Rattle.layout.specs.Places.{headAt, operationsIn, netlistIn}
 use Rattle.width.specs.Machine.{machine}
 use Rattle.width.specs.Width.{Samples}
 use Rattle.reading.specs.declared.ReadAnswer.{ReadAnswer}
-use Rattle.reading.specs.Read.{accepted, headAt, readNetlist, readAccepted}
-use Rattle.reading.specs.Tests.{operationsIn, netlistIn}
+use Rattle.reading.specs.Read.{accepted, readNetlist, readAccepted}
 use Rattle.checker.specs.Tables.{NetlistRead, BoardReady}
 use Rattle.width.proofs.TableLaws.{length-filled}
 use Rattle.checker.proofs.NetlistLaws.{head-limits, answer-accepted}
@@ -87,7 +88,7 @@ blank-values-requires c κs = search needs
 
 start-values-requires : tie.Need-start-values-requires
 start-values-requires c κs = let v = c .before in let x = v .before .before in let e = x .before .before .before .before in
-    (omega (arith, x .before .if2 .left, n-is e, head-limits (b (d e)) (N e) .columns-most), ap (λ (l : List ℤ). length l) (v .blank-values .ensures) ∙ length-filled (pos 0) 512)
+    (omega (arith, x .before .if2 .left, n-is e, head-limits (b (d e)) (N e) .limits .columns-most), ap (λ (l : List ℤ). length l) (v .blank-values .ensures) ∙ length-filled (pos 0) symbols)
 
 -- the samples are in the table
 module _ (c : tie.After-start-values) where
@@ -109,8 +110,8 @@ module _ (c : tie.After-start-values) where
   started : take n values ≡ xs (d e)
   started = ap (λ (k : ℕ). take k values) (sym count) ∙ c .start-values .ensures .held
 
-  of-width : Samples 16 n (take n values)
-  of-width = subst (λ (l : List ℤ). Samples 16 n l) (sym started) (subst (λ (k : ℕ). Samples 16 k (xs (d e))) count (c .start-values .ensures .of-width))
+  of-width : Samples sampleWidth n (take n values)
+  of-width = subst (λ (l : List ℤ). Samples sampleWidth n l) (sym started) (subst (λ (k : ℕ). Samples sampleWidth k (xs (d e))) count (c .start-values .ensures .of-width))
 
 run-operations-requires : tie.Need-run-operations-requires
 run-operations-requires c κs = let v = c .before in (N (e v), ((n-is (e v), operations-is (e v)), (v .start-values .ensures .room, of-width v)))
@@ -135,7 +136,7 @@ module _ (c : tie.After-run-operations) where
   ready : BoardReady B entries
   ready = record {
     room = c .run-operations .ensures .0;
-    small = value-small B (N E) (take (n v) (values v)) (subst (λ (k : ℕ). Samples 16 k (take (n v) (values v))) (n-is E) (of-width v)) (headAt B .operations) entries ran (omega arith);
+    small = value-small B (N E) (take (n v) (values v)) (subst (λ (k : ℕ). Samples sampleWidth k (take (n v) (values v))) (n-is E) (of-width v)) (headAt B .operations) entries ran (omega arith);
   }
 
 fill-outputs-requires : tie.Need-fill-outputs-requires

@@ -6,12 +6,16 @@ use native.Mathlib.Omega.{arith}
 use native.Mathlib.Numerals.{add-one}
 use lib.IntN.{ℤ}
 use lib.ListN.{take}
+use Rattle.limits.specs.Limits.{symbols}
 use Rattle.layout.specs.declared.Operation.{Operation}
+use Rattle.layout.specs.Records.{operationKind, operationLength, operationOf}
+use Rattle.layout.specs.Places.{payloadOf, headAt, operationAt, firstOperations}
 use Rattle.width.specs.Machine.{machine}
 use Rattle.width.specs.Table.{valueAppended}
-use Rattle.reading.specs.Read.{headAt, operationAt}
-use Rattle.reading.specs.Exact.{OperationLimits}
-use Rattle.checker.specs.Tables.{operationsBefore, NetlistRead}
+use Rattle.width.specs.Netlist.{OperationLimits}
+use Rattle.reading.specs.Read.{recordRefusal}
+use Rattle.reading.specs.Exact.{readLimits}
+use Rattle.checker.specs.Tables.{NetlistRead}
 use Rattle.checker.proofs.NetlistLaws.{head-limits, operation-there}
 use Rattle.checker.proofs.BoardLaws.{BoardAt, board-started, board-small, board-next}
 use Rattle.checker.proofs.run.run_operations.Statement.{statement}
@@ -54,34 +58,39 @@ module _ (c : tie.In-loop Inv-loop μ-loop) where
   inside : k < headAt b .operations
   inside = omega (arith, s .pre .1 .0 .1, c .loop-test .taken)
 
-  small : n + k < 512
-  small = omega (arith, inside, same, head-limits b N .columns-most, head-limits b N .few)
+  small : n + k < symbols
+  small = omega (arith, inside, same, head-limits b N .limits .columns-most, head-limits b N .few)
 
-  limits : OperationLimits (n + k) (operationAt b k)
-  limits = subst (λ (x : ℕ). OperationLimits (x + k) (operationAt b k)) (sym same) (operation-there b N k inside .1)
+  limits : OperationLimits readLimits (n + k) (operationAt b k)
+  limits = subst (λ (x : ℕ). OperationLimits readLimits (x + k) (operationAt b k)) (sym same) (operation-there b N k inside .1)
 
   board : BoardAt b n k (take n (s .args .values .now)) values
   board = l .loop .inv .1
 
-mul-operation-at : tie.Need-mul-operation-at Inv-loop μ-loop
-mul-operation-at c = omega (arith, small c)
-
-add-operation-at : tie.Need-add-operation-at Inv-loop μ-loop
-add-operation-at c = omega (arith, small c)
+operation-place-requires : tie.Need-operation-place-requires Inv-loop μ-loop
+operation-place-requires c κs = (omega arith, omega (arith, small c))
 
 operation-at-requires : tie.Need-operation-at-requires Inv-loop μ-loop
-operation-at-requires c κs = operation-there (b c) (N c) (k c) (inside c) .0
+operation-at-requires c κs = let d = c .before in
+    subst (λ (p : ℕ). recordRefusal (b d) p operationKind operationLength ≡ 0) (sym (c .operation-place .ensures)) (operation-there (b d) (N d) (k d) (inside d) .0)
+
+module _ (c : tie.After-operation-at Inv-loop μ-loop) where
+  abbrev d : tie.In-loop Inv-loop μ-loop
+  d = c .before .before
+
+  read : c .operation-at .result ≡ operationAt (b d) (k d)
+  read = c .operation-at .ensures ∙ ap (λ (p : ℕ). operationOf (payloadOf (b d) p operationLength)) (c .before .operation-place .ensures)
 
 add-append-value : tie.Need-add-append-value Inv-loop μ-loop
-add-append-value c = omega (arith, small (c .before .before))
+add-append-value c = omega (arith, small (d (c .before)))
 
 append-value-requires : tie.Need-append-value-requires Inv-loop μ-loop
-append-value-requires c κs = let d = c .before .before in let L = limits d in
-    rw (c .before .operation-at .ensures) (
+append-value-requires c κs = let a = c .before in let d = d a in let L = limits d in
+    rw (read a) (
       (small d, (omega (arith, small d, L .first-earlier), omega (arith, small d, L .second-earlier))),
       (
-        board-small (b d) (N d) (n d) (same d) (take (n d) (s d .args .values .now)) (k d) (values d) (board d) (omega (arith, inside d)) (operationAt (b d) (k d) .a) (operationAt (b d) (k d) .sa) (L .first-earlier) (L .first-shift),
-        board-small (b d) (N d) (n d) (same d) (take (n d) (s d .args .values .now)) (k d) (values d) (board d) (omega (arith, inside d)) (operationAt (b d) (k d) .b) (operationAt (b d) (k d) .sb) (L .second-earlier) (L .second-shift),
+        board-small (b d) (N d) (n d) (same d) (take (n d) (s d .args .values .now)) (k d) (values d) (board d) (omega (arith, inside d)) (operationAt (b d) (k d) .a) (operationAt (b d) (k d) .sa) (L .first-earlier) (omega (arith, L .first-shift)),
+        board-small (b d) (N d) (n d) (same d) (take (n d) (s d .args .values .now)) (k d) (values d) (board d) (omega (arith, inside d)) (operationAt (b d) (k d) .b) (operationAt (b d) (k d) .sb) (L .second-earlier) (omega (arith, L .second-shift)),
       ),
     )
 
@@ -92,15 +101,15 @@ loop-less : tie.Need-loop-less Inv-loop μ-loop
 loop-less c = omega arith
 
 loop-again : tie.Need-loop-again Inv-loop μ-loop
-loop-again c = let d = c .before .before .before in let xs = take (n d) (s d .args .values .now) in
+loop-again c = let a = c .before .before in let d = d a in let xs = take (n d) (s d .args .values .now) in
     let e : c .append-value .last .0 ≡ valueAppended (values d) (operationAt (b d) (k d)) (n d + k d)
-    = c .append-value .ensures ∙ ap (λ (o : Operation). valueAppended (values d) o (n d + k d)) (c .before .before .operation-at .ensures) in
+    = c .append-value .ensures ∙ ap (λ (o : Operation). valueAppended (values d) o (n d + k d)) (read a) in
     rw add-one (omega arith, subst (BoardAt (b d) (n d) (suc (k d)) xs) (sym e) (board-next (b d) (N d) (n d) (same d) xs (k d) (values d) (board d) (inside d)))
 
 returns : tie.Need-returns Inv-loop μ-loop
 returns c = let l = c .before in let s = l .before .before in let b = s .args .netlist .now in let xs = take (s .args .n) (s .args .values .now) in
     let e : l .loop .k ≡ s .args .operations = omega arith in
-    (l .loop .inv .1 .room, ap (λ (j : ℕ). take (s .args .n + j) (l .loop .values)) (sym e) ∙ l .loop .inv .1 .held ∙ ap (λ (j : ℕ). machine xs (operationsBefore b j)) (e ∙ s .pre .1 .0 .1))
+    (l .loop .inv .1 .room, ap (λ (j : ℕ). take (s .args .n + j) (l .loop .values)) (sym e) ∙ l .loop .inv .1 .held ∙ ap (λ (j : ℕ). machine xs (firstOperations b j)) (e ∙ s .pre .1 .0 .1))
 
 pub run-operations-spec : {M : Type 1} → statement M
 run-operations-spec =
@@ -109,8 +118,7 @@ run-operations-spec =
     Inv-loop
     μ-loop
     loop-holds
-    mul-operation-at
-    add-operation-at
+    operation-place-requires
     operation-at-requires
     add-append-value
     append-value-requires

@@ -11,26 +11,27 @@ use lib.Seq.{take-length}
 use lib.Signed.{mag}
 use mir.Syntax.{w16, w64}
 use mir.Val.{SFits, toZ, ofZ}
+use Rattle.limits.specs.Limits.{sampleWidth, symbols}
 use Rattle.integers.proofs.Held.{is, held, need-cast, held-cast}
 use Rattle.width.specs.Width.{Within}
 use Rattle.checker.proofs.BoardLaws.{sample-within, sample-next}
 use Rattle.checker.proofs.run.start_values.Statement.{statement}
 use Rattle.checker.proofs.run.start_values.Tie as tie
 
--- the samples seen so far are of 16 bits
+-- the samples seen so far are of their width
 abbrev Seen : List ℤ → ℕ → Type 0
-Seen samples j = (i : ℕ) → i < j → Within 16 (getD samples i (pos 0))
+Seen samples j = (i : ℕ) → i < j → Within sampleWidth (getD samples i (pos 0))
 
 abbrev Inv-loop : tie.InvT-loop
-Inv-loop samples values₀ n j₀ values j = (j ≤ n) × ((length values ≡ 512) × ((take j values ≡ take j samples) × Seen samples j))
+Inv-loop samples values₀ n j₀ values j = (j ≤ n) × ((length values ≡ symbols) × ((take j values ≡ take j samples) × Seen samples j))
 
 abbrev μ-loop : tie.MeasureT-loop
 μ-loop samples values₀ n j₀ values j = n - j
 
-seen-next : (samples : List ℤ) (j : ℕ) → Seen samples j → Within 16 (getD samples j (pos 0)) → Seen samples (suc j)
+seen-next : (samples : List ℤ) (j : ℕ) → Seen samples j → Within sampleWidth (getD samples j (pos 0)) → Seen samples (suc j)
 seen-next samples j before here i h = go (decLt i j)
   where
-    go : Dec (i < j) → Within 16 (getD samples i (pos 0))
+    go : Dec (i < j) → Within sampleWidth (getD samples i (pos 0))
     go (yes l) = before i l
     go (no l) = let e : i ≡ j = omega arith in rw e here
 
