@@ -13,12 +13,14 @@ use lib.ListN.{length}
 use borrow.Author.Tests.{eq-eqb, ne-eqb, eqb-true, eqb-false}
 use Rattle.limits.specs.Limits.{maxRows}
 use Rattle.layout.specs.Records.{Netlist}
+use Rattle.layout.specs.Places.{netlistIn}
 use Rattle.layout.proofs.LittleEndian.{AreBytes}
 use Rattle.reading.specs.Read.{refused, accepted, readNetlist}
 use Rattle.reading.specs.Run.{ran, countsAnswer, runAnswer, netlistOutputs, runOutputs}
 use Rattle.reading.specs.declared.RunAnswer.{RunAnswer}
-use Rattle.reading.specs.Exact.{HeadLimits}
-use Rattle.reading.specs.Tests.{netlistIn, readTests}
+use Rattle.width.specs.Netlist.{HeadLimits}
+use Rattle.reading.specs.Exact.{readLimits}
+use Rattle.reading.specs.Tests.{readTests}
 use Rattle.reading.proofs.TestLaws.{Decided}
 use Rattle.reading.proofs.ReadAccepts.{reads-netlist}
 use Rattle.reading.proofs.ReadTests.{read-decided}
@@ -96,7 +98,7 @@ module _ (b : List ℕ) (samples : List ℤ) (bytes : List ℕ) where
       bytes-filled m = rw (e, runBytes) (rw n (rw m))
 
       -- run and the bytes agree on whether the outputs are m
-      module _ (count : ℕ) (limits : HeadLimits (net .head)) (lent : LentOutputs bytes count) where
+      module _ (count : ℕ) (limits : HeadLimits readLimits (net .head)) (lent : LentOutputs bytes count) where
         not-m : (outputCount bytes ≡ net .head .m → ⊥) → count ≡ net .head .m → ⊥
         not-m other c = go (lent .all-or-none)
           where
