@@ -9,6 +9,7 @@ use lib.IntN.{ℤ}
 use lib.ListN.{length, getD, drop}
 use lib.Seq.{take-append-seam}
 use Rattle.limits.specs.Limits.{positions, sampleWidth, maxOperations}
+use Rattle.limits.proofs.Numbers.{compiled-narrower}
 use Rattle.limits.proofs.Size.{size-inside}
 use Rattle.elimination.specs.declared.Divisor.{Divisor}
 use Rattle.elimination.specs.Rows.{Row, matrixRows}
@@ -60,7 +61,7 @@ module _ (bytes : List ℕ) where
 -- ---- a compiled netlist is a netlist as read takes it: read's limits are wider
 
 pub read-takes-wider : Wider compiledLimits readLimits
-read-takes-wider = record { same-samples = refl; more-positions = omega arith; wider = omega arith; more-operations = omega arith }
+read-takes-wider = record { same-samples = refl; more-positions = omega arith; wider = compiled-narrower; more-operations = omega arith }
 
 -- ---- the head and the bytes written
 

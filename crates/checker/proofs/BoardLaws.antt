@@ -21,7 +21,7 @@ use Rattle.width.specs.Table.{Small, valueAppended}
 use Rattle.width.proofs.MachineLaws.{output-same}
 use Rattle.width.proofs.FormLaws.{entry-form-keeps}
 use Rattle.width.proofs.WidthLaws.{between-within, positive-is, negative-is}
-use Rattle.width.proofs.BoundLaws.{entry-small}
+use Rattle.width.proofs.BoundLaws.{widest-shifted, entry-small}
 use Rattle.width.proofs.TableLaws.{value-appended}
 use Rattle.reading.specs.declared.ReadAnswer.{ReadAnswer}
 use Rattle.reading.specs.declared.RunAnswer.{RunAnswer}
@@ -76,7 +76,7 @@ module _ (b : List ℕ) (N : NetlistRead b) where
     pub value-small : k ≤ headAt b .operations → (symbol shift : ℕ) → symbol < headAt b .n + k → shift ≤ maxShift → Small (entryAt values symbol) shift
     value-small l symbol shift h s =
         subst (λ z. Small z shift) (sym (sym (getD-take (headAt b .n + k) values symbol (pos 0) h) ∙ ap (λ v. entryAt v symbol) e))
-        (entry-small sampleWidth (headAt b .n) maxWidth maxShift (firstOperations b k) symbol shift (narrow-before k symbol l h) s (omega arith) xs X)
+        (entry-small sampleWidth (headAt b .n) maxWidth maxShift (firstOperations b k) symbol shift (narrow-before k symbol l h) s widest-shifted xs X)
 
     pub values-next : k < headAt b .operations → length values ≡ symbols
         → take (headAt b .n + suc k) (valueAppended values (operationAt b k) (headAt b .n + k)) ≡ machine xs (firstOperations b (suc k))

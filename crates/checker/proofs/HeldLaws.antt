@@ -20,7 +20,7 @@ use Rattle.width.specs.Netlist.{OperationLimits, OutputOperand}
 use Rattle.width.proofs.FormLaws.{entry-form-keeps}
 use Rattle.width.proofs.DepthLaws.{depths-at-most, largest-snoc}
 use Rattle.width.proofs.TableLaws.{length-filled, take-filled, started-holds, row-is, output-row-is, appended-holds, depth-appended}
-use Rattle.width.proofs.BoundLaws.{sample-width, forms-small, appended-range-small, output-row-range-small}
+use Rattle.width.proofs.BoundLaws.{sample-width, widest-shifted, forms-small, appended-range-small, output-row-range-small}
 use Rattle.reading.specs.Read.{operationWidth, outputWidth}
 use Rattle.reading.specs.Exact.{readLimits}
 use Rattle.checker.specs.Tables.{FormsHeld, DepthsHeld}
@@ -59,7 +59,7 @@ module _ (b : List ℕ) (n k : ℕ) (forms : List ℤ) (H : FormsHeld b n k form
 
     pub operands-small : SmallForms forms n o
     operands-small = forms-small sampleWidth maxWidth maxShift n before forms (H .coefficients) o first second
-        (H .narrow (o .a) (L .first-earlier)) (H .narrow (o .b) (L .second-earlier)) (omega (arith, L .first-shift)) (omega (arith, L .second-shift)) (omega arith)
+        (H .narrow (o .a) (L .first-earlier)) (H .narrow (o .b) (L .second-earlier)) (omega (arith, L .first-shift)) (omega (arith, L .second-shift)) widest-shifted
 
     module _ (l : n ≤ maxColumns) (m : k < maxOperations) where
       pub appended-coefficients : HoldsForms n (firstOperations b k ++ (o ∷ [])) (formAppended forms n o (n + k))
@@ -75,7 +75,7 @@ module _ (b : List ℕ) (n k : ℕ) (forms : List ℤ) (H : FormsHeld b n k form
 
       pub appended-range : SmallRange sampleWidth (row (formAppended forms n o (n + k)) n (n + k))
       appended-range = rw appended-row (rw count at (appended-range-small sampleWidth maxWidth maxShift n before forms (H .coefficients) (omega arith) o first second
-          (H .narrow (o .a) (L .first-earlier)) (H .narrow (o .b) (L .second-earlier)) (omega (arith, L .first-shift)) (omega (arith, L .second-shift)) (omega arith)))
+          (H .narrow (o .a) (L .first-earlier)) (H .narrow (o .b) (L .second-earlier)) (omega (arith, L .first-shift)) (omega (arith, L .second-shift)) widest-shifted))
 
   module _ (L : OperationLimits readLimits (n + k) (operationAt b k)) (l : n ≤ maxColumns) (m : k < maxOperations) where
     pub forms-appended : operationWidth n (firstOperations b k) (operationAt b k) ≤ maxWidth → FormsHeld b n (suc k) (formAppended forms n (operationAt b k) (n + k))
@@ -102,11 +102,11 @@ module _ (b : List ℕ) (n k : ℕ) (forms : List ℤ) (H : FormsHeld b n k form
     pub output-coefficient-small : (j : ℕ) → j < n → Small (tableCoefficient forms (o .symbol) j) (o .shift)
     output-coefficient-small j h =
         forms-small sampleWidth maxWidth maxShift n before forms (H .coefficients) (record { sign = 0; a = o .symbol; sa = o .shift; b = o .symbol; sb = o .shift; width = 0 })
-        (omega (arith, count, L .symbol)) (omega (arith, count, L .symbol)) (H .narrow (o .symbol) (L .symbol)) (H .narrow (o .symbol) (L .symbol)) (omega (arith, L .shift)) (omega (arith, L .shift)) (omega arith) .first j h
+        (omega (arith, count, L .symbol)) (omega (arith, count, L .symbol)) (H .narrow (o .symbol) (L .symbol)) (H .narrow (o .symbol) (L .symbol)) (omega (arith, L .shift)) (omega (arith, L .shift)) widest-shifted .first j h
 
     pub output-range : SmallRange sampleWidth (outputRow forms n o)
     output-range = output-row-range-small sampleWidth maxWidth maxShift n before forms (H .coefficients) (omega arith) o (omega (arith, count, L .symbol))
-        (H .narrow (o .symbol) (L .symbol)) (omega (arith, L .shift)) (omega arith)
+        (H .narrow (o .symbol) (L .symbol)) (omega (arith, L .shift)) widest-shifted
 
 -- ---- depths
 

@@ -22,7 +22,7 @@ use Rattle.width.specs.Table.{filled, formsLength, tableCoefficient, row, opera
 use Rattle.width.proofs.FormLaws.{columns-at, columns-same, length-columns, entry-form-keeps}
 use Rattle.width.proofs.TableLaws.{take-filled, sets-inside, operation-row-is, output-row-is, appended-holds, front-at, depth-appended}
 use Rattle.width.proofs.DepthLaws.{depth-snoc, depths-at-most}
-use Rattle.width.proofs.BoundLaws.{forms-small, appended-range-small, output-row-range-small}
+use Rattle.width.proofs.BoundLaws.{compiled-shifted, forms-small, appended-range-small, output-row-range-small}
 use Rattle.compiler.specs.Lists.{noOperation, noOutput}
 use Rattle.compilation.specs.Compile.{withWidth, withWidths, outputWithWidth}
 use Rattle.compilation.specs.Compiled.{compiledLimits}
@@ -139,7 +139,7 @@ module _ (n : ℕ) (os : List Operation) where
 
     pub small-forms : SmallForms table n (getD os k noOperation)
     small-forms = forms-small sampleWidth maxCompiledWidth maxShift n (take k os) table H o first-below second-below (early (o .a) first-below) (early (o .b) second-below)
-        first-shift second-shift (omega arith)
+        first-shift second-shift compiled-shifted
 
     row-entry : operationRow table n (getD os k noOperation) ≡ entryForm n (take k os ++ (o ∷ [])) (n + length (take k os))
     row-entry = operation-row-is n (take k os) table H o first-below second-below
@@ -147,7 +147,7 @@ module _ (n : ℕ) (os : List Operation) where
     pub small-range : SmallRange sampleWidth (operationRow table n (getD os k noOperation))
     small-range = subst (SmallRange sampleWidth) (sym row-entry)
         (appended-range-small sampleWidth maxCompiledWidth maxShift n (take k os) table H (omega arith) o first-below second-below (early (o .a) first-below) (early (o .b) second-below)
-        first-shift second-shift (omega arith))
+        first-shift second-shift compiled-shifted)
 
     -- its coefficients are those of its symbol among all operations
     pub row-form : operationRow table n (getD os k noOperation) ≡ entryForm n os (n + k)
@@ -239,7 +239,7 @@ module _ (n : ℕ) (os : List Operation) (table : List ℤ) (H : HoldsForms n os
     inputs = w .inputs;
     symbol = λ i h. omega (arith, later i h .symbol, w .few, w .inputs);
     shift = λ i h. omega (arith, later i h .shift);
-    range = λ i h. output-row-range-small sampleWidth maxCompiledWidth maxShift n os table H (omega arith) (getD outputs i noOutput) (later i h .symbol) (w .narrow (getD outputs i noOutput .symbol) (later i h .symbol)) (omega (arith, later i h .shift)) (omega arith);
+    range = λ i h. output-row-range-small sampleWidth maxCompiledWidth maxShift n os table H (omega arith) (getD outputs i noOutput) (later i h .symbol) (w .narrow (getD outputs i noOutput .symbol) (later i h .symbol)) (omega (arith, later i h .shift)) compiled-shifted;
   }
 
 same-map : {A B : Type 0} (f g : A → B) (d : A) (l : List A) → ((i : ℕ) → i < length l → f (getD l i d) ≡ g (getD l i d)) → map f l ≡ map g l

@@ -3,7 +3,7 @@
 use Prim.Native.Nat.{_+_, _*_, _-_, _^_, _≤_}
 use mathlib.Core.Path.{_≡_, refl}
 use native.Mathlib.Omega.{arith}
-use Rattle.limits.specs.Limits.{maxRows, maxColumns, maxOperations, maxShift, maxDigits, maxTerms, maxDivisors, termSymbols, symbols, columnBits, maxCompiledWidth}
+use Rattle.limits.specs.Limits.{maxRows, maxColumns, maxOperations, maxWidth, maxShift, maxDigits, maxTerms, maxDivisors, termSymbols, symbols, columnBits, maxCompiledWidth}
 
 -- "Shifts are 0 to 15"
 shifts : maxShift ≡ 15
@@ -24,6 +24,10 @@ highest-symbol = refl
 -- "compiled ones at most 35"
 compiled-width : maxCompiledWidth ≡ 35
 compiled-width = refl
+
+-- read takes compiled widths
+pub compiled-narrower : maxCompiledWidth ≤ maxWidth
+compiled-narrower = omega arith
 
 -- the plain count of a matrix within the limits is at most the most operations
 pub rows-of-terms : maxRows * (maxTerms - 1) ≤ maxOperations
