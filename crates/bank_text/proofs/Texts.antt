@@ -1,18 +1,18 @@
 -- The text of list-bank from what compile answers and leaves in a buffer that suffices for every netlist.
 -- Assumes nothing.
-use Prim.Native.Nat.{ℕ, zero, suc, _+_, _*_, _≤_}
+use Prim.Native.Nat.{ℕ, zero, suc, _+_, _≤_}
 use mathlib.Core.Path.{_≡_, refl, sym, ap, ap₂, _∙_, subst}
 use mathlib.Core.List.{List, _++_}
 use native.Mathlib.Omega.{arith}
 use lib.ListN.{length, getD, drop, length-append}
 use Rattle.limits.specs.Limits.{maxOperations}
-use Rattle.layout.specs.Matrix.{matrixRefusal, rows, columns}
+use Rattle.layout.specs.Matrix.{matrixRefusal, rows}
 use Rattle.layout.specs.Records.{headLength}
 use Rattle.layout.specs.Places.{outputPlace, enoughBytes}
 use Rattle.layout.proofs.LittleEndian.{AreBytes}
 use Rattle.layout.proofs.MatrixRefusal.{AcceptedMatrix, accepted-matrix}
 use Rattle.compilation.specs.declared.CompileAnswer.{CompileAnswer}
-use Rattle.compilation.specs.Compile.{netlistOf, compileAnswer, compileBuffer, compileRefused, compileAccepted, compiledBytes, compiledNetlist}
+use Rattle.compilation.specs.Compile.{netlistOf, compileAnswer, compileBuffer, compileAccepted, compiledBytes, compiledNetlist}
 use Rattle.compilation.proofs.Compiled.{answer-refused, enough-room, buffer-accepted, compiled-answer, compiled-is, compiled-length, compiled-operations}
 use Rattle.listing.specs.declared.Counts.{Counts}
 use Rattle.listing.specs.Listing.{listing, refusedLine}

@@ -1,7 +1,7 @@
 -- The test of m and n passes exactly where they are within the limits.
 -- Assumes nothing.
 use Prim.Native.Nat.{ℕ, _≤_}
-use mathlib.Core.Path.{_≡_, refl, sym}
+use mathlib.Core.Path.{_≡_, refl}
 use mathlib.Core.Bool.{Bool, true, false, _||_, true≢false}
 use lib.Dec.{ltb}
 use borrow.Author.Tests.{ltb-false, le-ltb}

@@ -9,7 +9,7 @@ use Rattle.layout.specs.declared.Operation.{Operation}
 use Rattle.layout.specs.declared.Output.{Output}
 use Rattle.layout.specs.Records.{Netlist}
 use Rattle.width.specs.Width.{IsWidth}
-use Rattle.width.specs.Netlist.{Limits, OperationLimits, OutputOperand, OutputLimits, WidthRight, IsOperation, IsOutput, IsNetlist}
+use Rattle.width.specs.Netlist.{Limits, OperationLimits, OutputOperand, WidthRight, IsNetlist}
 
 -- the same samples, and nothing narrower
 pub record Wider (l k : Limits) : Type 0 where
