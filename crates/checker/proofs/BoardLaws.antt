@@ -11,7 +11,7 @@ use lib.ListN.{length, getD, set, take, drop, drop-of-length-le, length-set, len
 use lib.Seq.{sets, sets-eq, drop-cons, getD-take, take-suc, take-suc-set}
 use lib.Signed.{mag}
 use borrow.Author.Tests.{eq-eqb, ne-eqb}
-use Rattle.limits.specs.Limits.{maxShift, sampleWidth, maxWidth, symbols}
+use Rattle.limits.specs.Limits.{maxShift, sampleWidth, maxWidth, maxSymbols}
 use Rattle.layout.specs.Records.{Netlist}
 use Rattle.layout.specs.Places.{headAt, operationAt, outputAt, firstRecords, firstOperations, operationsIn, outputsIn}
 use Rattle.layout.proofs.FirstRecords.{length-first, getD-first}
@@ -49,11 +49,11 @@ more-records fields k (suc d) =
 
 -- the table after k operations on the samples
 pub record BoardAt (b : List ℕ) (n k : ℕ) (xs values : List ℤ) : Type 0 where
-  pub room : length values ≡ symbols
+  pub room : length values ≡ maxSymbols
   pub of-width : Samples sampleWidth n xs
   pub held : take (n + k) values ≡ machine xs (firstOperations b k)
 
-pub board-started : (b : List ℕ) (n : ℕ) (values : List ℤ) → length values ≡ symbols → Samples sampleWidth n (take n values) → BoardAt b n 0 (take n values) values
+pub board-started : (b : List ℕ) (n : ℕ) (values : List ℤ) → length values ≡ maxSymbols → Samples sampleWidth n (take n values) → BoardAt b n 0 (take n values) values
 unfolding machine firstRecords
 board-started b n values room X = let e : n + 0 ≡ n = omega arith in record { room = room; of-width = X; held = rw e refl }
 
@@ -78,7 +78,7 @@ module _ (b : List ℕ) (N : NetlistRead b) where
         subst (λ z. Small z shift) (sym (sym (getD-take (headAt b .n + k) values symbol (pos 0) h) ∙ ap (λ v. entryAt v symbol) e))
         (entry-small sampleWidth (headAt b .n) maxWidth maxShift (firstOperations b k) symbol shift (narrow-before k symbol l h) s widest-shifted xs X)
 
-    pub values-next : k < headAt b .operations → length values ≡ symbols
+    pub values-next : k < headAt b .operations → length values ≡ maxSymbols
         → take (headAt b .n + suc k) (valueAppended values (operationAt b k) (headAt b .n + k)) ≡ machine xs (firstOperations b (suc k))
     unfolding firstRecords
     values-next l room =

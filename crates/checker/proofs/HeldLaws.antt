@@ -8,7 +8,7 @@ use native.Mathlib.Decide.{decLt}
 use lib.IntN.{ℤ}
 use lib.ListN.{length, getD, set, take, replicate, length-append, length-set}
 use lib.Seq.{getD-take, take-suc}
-use Rattle.limits.specs.Limits.{maxColumns, maxShift, sampleWidth, maxOperations, maxWidth, symbols}
+use Rattle.limits.specs.Limits.{maxColumns, maxShift, sampleWidth, maxOperations, maxWidth, maxSymbols}
 use Rattle.layout.specs.declared.Operation.{Operation}
 use Rattle.layout.specs.declared.Output.{Output}
 use Rattle.layout.specs.Places.{operationAt, firstRecords, firstOperations}
@@ -35,11 +35,11 @@ module _ (b : List ℕ) (n : ℕ) (l : n ≤ maxColumns) where
     narrow = λ symbol h. omega (arith, sample-width sampleWidth n [] symbol (omega arith) (omega arith));
   }
 
-  pub depths-started : (table : List ℕ) → table ≡ filled symbols 0 → DepthsHeld b n 0 table
+  pub depths-started : (table : List ℕ) → table ≡ filled maxSymbols 0 → DepthsHeld b n 0 table
   unfolding firstRecords depths
   depths-started table e =
       let z : n + 0 ≡ n = omega arith in
-      record { room = ap length e ∙ length-filled 0 symbols; held = rw (z, e) (take-filled 0 n symbols (omega arith)) }
+      record { room = ap length e ∙ length-filled 0 maxSymbols; held = rw (z, e) (take-filled 0 n maxSymbols (omega arith)) }
 
 -- ---- coefficients
 

@@ -5,7 +5,7 @@ use mathlib.Core.Path.{_≡_}
 use mathlib.Core.List.{List}
 use lib.IntN.{ℤ}
 use lib.ListN.{length, take, replicate}
-use Rattle.limits.specs.Limits.{maxShift, sampleWidth, maxWidth, symbols}
+use Rattle.limits.specs.Limits.{maxShift, sampleWidth, maxWidth, maxSymbols}
 use Rattle.layout.specs.declared.Head.{Head}
 use Rattle.layout.specs.declared.Operation.{Operation}
 use Rattle.layout.specs.declared.Output.{Output}
@@ -26,7 +26,7 @@ pub record FormsHeld (bytes : List ℕ) (n k : ℕ) (forms : List ℤ) : Type 0 
 
 -- the depths of these entries
 pub record DepthsHeld (bytes : List ℕ) (n k : ℕ) (table : List ℕ) : Type 0 where
-  pub room : length table ≡ symbols
+  pub room : length table ≡ maxSymbols
   pub held : take (n + k) table ≡ depths (replicate n 0) (firstOperations bytes k)
 
 -- the refusal and the place of what was read, 0 at place 0 where it is accepted
@@ -98,11 +98,11 @@ rowsMatched matrixBytes bytes = rowsAnswer (headAt bytes .n) (operationsIn bytes
 
 -- the table begins with the samples, which are of their width
 pub record SamplesHeld (samples values : List ℤ) : Type 0 where
-  pub room : length values ≡ symbols
+  pub room : length values ≡ maxSymbols
   pub held : take (length samples) values ≡ samples
   pub of-width : Samples sampleWidth (length samples) samples
 
 -- board values by symbol, so small that no output wraps
 pub record BoardReady (bytes : List ℕ) (values : List ℤ) : Type 0 where
-  pub room : length values ≡ symbols
+  pub room : length values ≡ maxSymbols
   pub small : (symbol shift : ℕ) → symbol < headAt bytes .n + headAt bytes .operations → shift ≤ maxShift → Small (entryAt values symbol) shift

@@ -8,7 +8,7 @@ use reading::CheckAnswer;
 use width::FORMS_LENGTH;
 ghost use mathlib.Core.Path.{_≡_};
 ghost use Prim.Native.Nat.{_*_, _≤_, _<_};
-ghost use Rattle.limits.specs.Limits.{maxRows, maxColumns, symbols};
+ghost use Rattle.limits.specs.Limits.{maxRows, maxColumns, maxSymbols};
 ghost use Rattle.layout.specs.Matrix.{matrixRefusal, coefficientsFrom};
 ghost use Rattle.layout.specs.Places.{headAt};
 ghost use Rattle.width.specs.Table.{outputRow};
@@ -17,7 +17,7 @@ ghost use Rattle.checker.specs.Tables.{NetlistHeld, SameSizes, RowReady,
 
 // Whether an output's coefficients are those of the matrix's row that begins at an index.
 fn same_row(matrix: &[u8], index: usize, o: Output, n: usize, forms: &[i64; FORMS_LENGTH]) -> bool
-    requires { ⌜ (n ≤ maxColumns) × ((index ≤ maxRows * maxColumns) × (o .symbol < symbols)) ⌝ }
+    requires { ⌜ (n ≤ maxColumns) × ((index ≤ maxRows * maxColumns) × (o .symbol < maxSymbols)) ⌝ }
     requires { ⌜ RowReady (now matrix) index n (now forms) o ⌝ }
     ensures { λ r. ⌜ r ≡ sameRow (outputRow (now (forms .entry)) n o) (coefficientsFrom (now (matrix .entry)) index n) ⌝ }
 {

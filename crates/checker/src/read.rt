@@ -14,16 +14,16 @@ use layout::places::TOTALS_LENGTH;
 use layout::places::operation_place;
 use layout::places::output_place;
 use limits::MAX_OPERATIONS;
+use limits::MAX_SYMBOLS;
 use limits::MAX_WIDTH;
 use limits::SAMPLE_WIDTH;
-use limits::SYMBOLS;
 use reading::ReadAnswer;
 use term::Term;
 use width::FORMS_LENGTH;
 ghost use mathlib.Core.Path.{_≡_};
 ghost use Prim.Native.Nat.{_≤_, _<_};
 ghost use lib.ListN.{length, take};
-ghost use Rattle.limits.specs.Limits.{maxRows, maxColumns, maxOperations, symbols};
+ghost use Rattle.limits.specs.Limits.{maxRows, maxColumns, maxOperations, maxSymbols};
 ghost use Rattle.layout.specs.Records.{headKind, headLength, operationKind, operationLength, operationOf, outputKind, outputLength, outputOf, totalsKind, totalsLength};
 ghost use Rattle.layout.specs.Places.{payloadOf, headAt, totalsAt, firstOperations};
 ghost use Rattle.width.specs.Machine.{largest};
@@ -189,7 +189,7 @@ fn next_operation(
     n: usize,
     k: usize,
     forms: &mut [i64; FORMS_LENGTH],
-    depths: &mut [u16; SYMBOLS],
+    depths: &mut [u16; MAX_SYMBOLS],
 ) -> u8
     requires { ⌜ (n ≤ maxColumns) × (k < maxOperations) ⌝ }
     requires { ⌜ FormsHeld (now bytes) n k (now forms) × DepthsHeld (now bytes) n k (now depths) ⌝ }
@@ -220,7 +220,7 @@ fn read_operations(
     bytes: &[u8],
     head: Head,
     forms: &mut [i64; FORMS_LENGTH],
-    depths: &mut [u16; SYMBOLS],
+    depths: &mut [u16; MAX_SYMBOLS],
 ) -> Refusal
     requires { ⌜ (head .n ≤ maxColumns) × (head .operations ≤ maxOperations) ⌝ }
     requires { ⌜ FormsHeld (now bytes) (head .n) 0 (now forms) × DepthsHeld (now bytes) (head .n) 0 (now depths) ⌝ }
@@ -300,8 +300,8 @@ fn read_outputs(bytes: &[u8], head: Head, forms: &[i64; FORMS_LENGTH]) -> Refusa
 // ---- totals
 
 // The largest of so many depths.
-fn largest_depth(depths: &[u16; SYMBOLS], count: usize) -> u16
-    requires { ⌜ (count ≤ symbols) × (length (now depths) ≡ symbols) ⌝ }
+fn largest_depth(depths: &[u16; MAX_SYMBOLS], count: usize) -> u16
+    requires { ⌜ (count ≤ maxSymbols) × (length (now depths) ≡ maxSymbols) ⌝ }
     ensures { λ r. ⌜ r ≡ largest (take count (now (depths .entry))) ⌝ }
 {
     let mut depth: u16 = 0;
@@ -311,7 +311,7 @@ fn largest_depth(depths: &[u16; SYMBOLS], count: usize) -> u16
     depth
 }
 
-fn totals_refusal(bytes: &[u8], place: usize, head: Head, depths: &[u16; SYMBOLS]) -> u8
+fn totals_refusal(bytes: &[u8], place: usize, head: Head, depths: &[u16; MAX_SYMBOLS]) -> u8
     requires { ⌜ (head .n ≤ maxColumns) × (head .operations ≤ maxOperations) ⌝ }
     requires { ⌜ DepthsHeld (now bytes) (head .n) (head .operations) (now depths) ⌝ }
     ensures { λ r. ⌜ r ≡ totalsRefusal (now (bytes .entry)) place head (firstOperations (now (bytes .entry)) (head .operations)) ⌝ }
@@ -339,10 +339,10 @@ fn records(
     bytes: &[u8],
     head: Head,
     forms: &mut [i64; FORMS_LENGTH],
-    depths: &mut [u16; SYMBOLS],
+    depths: &mut [u16; MAX_SYMBOLS],
 ) -> Refusal
     requires { ⌜ HeadRead (now bytes) head ⌝ }
-    requires { ⌜ (length (now forms) ≡ formsLength) × (now depths ≡ filled symbols 0) ⌝ }
+    requires { ⌜ (length (now forms) ≡ formsLength) × (now depths ≡ filled maxSymbols 0) ⌝ }
     ensures { λ r. ⌜ RecordsRead (now (bytes .entry)) r (now (forms .exit)) ⌝ }
 {
     let n = head.n as usize;
@@ -376,9 +376,9 @@ fn records(
 pub(crate) fn netlist(
     bytes: &[u8],
     forms: &mut [i64; FORMS_LENGTH],
-    depths: &mut [u16; SYMBOLS],
+    depths: &mut [u16; MAX_SYMBOLS],
 ) -> ReadAnswer
-    requires { ⌜ (length (now forms) ≡ formsLength) × (now depths ≡ filled symbols 0) ⌝ }
+    requires { ⌜ (length (now forms) ≡ formsLength) × (now depths ≡ filled maxSymbols 0) ⌝ }
     ensures { λ r. ⌜ (r ≡ readAnswer (now (bytes .entry))) × (r .refusal ≡ 0 → NetlistHeld (now (bytes .entry)) (now (forms .exit))) ⌝ }
 {
     let refusal = head_refusal(bytes);

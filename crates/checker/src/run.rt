@@ -2,13 +2,13 @@
 use layout::places::HEAD_LENGTH;
 use layout::places::operation_place;
 use layout::places::output_place;
-use limits::SYMBOLS;
+use limits::MAX_SYMBOLS;
 use reading::RunAnswer;
 ghost use mathlib.Core.Path.{_≡_};
 ghost use mathlib.Core.List.{map};
 ghost use Prim.Native.Nat.{_+_, _≤_};
 ghost use lib.ListN.{length, take};
-ghost use Rattle.limits.specs.Limits.{maxColumns, sampleWidth, symbols};
+ghost use Rattle.limits.specs.Limits.{maxColumns, sampleWidth, maxSymbols};
 ghost use Rattle.layout.specs.Places.{headAt, operationsIn, outputsIn};
 ghost use Rattle.width.specs.Machine.{machine, outputValue};
 ghost use Rattle.width.specs.Width.{Samples};
@@ -16,8 +16,8 @@ ghost use Rattle.reading.specs.Run.{runAnswer, runOutputs};
 ghost use Rattle.checker.specs.Tables.{NetlistRead, SamplesHeld, BoardReady};
 
 // The samples, the first values of the board machine.
-fn start_values(samples: &[i16], values: &mut [i64; SYMBOLS])
-    requires { ⌜ (length (now samples) ≤ maxColumns) × (length (now values) ≡ symbols) ⌝ }
+fn start_values(samples: &[i16], values: &mut [i64; MAX_SYMBOLS])
+    requires { ⌜ (length (now samples) ≤ maxColumns) × (length (now values) ≡ maxSymbols) ⌝ }
     ensures { λ r. ⌜ SamplesHeld (now (samples .entry)) (now (values .exit)) ⌝ }
 {
     let n = samples.len();
@@ -27,11 +27,11 @@ fn start_values(samples: &[i16], values: &mut [i64; SYMBOLS])
 }
 
 // The operations in order, each value at its symbol.
-fn run_operations(netlist: &[u8], n: usize, operations: usize, values: &mut [i64; SYMBOLS])
+fn run_operations(netlist: &[u8], n: usize, operations: usize, values: &mut [i64; MAX_SYMBOLS])
     requires { ⌜ NetlistRead (now netlist) ⌝ }
     requires { ⌜ (n ≡ headAt (now netlist) .n) × (operations ≡ headAt (now netlist) .operations) ⌝ }
-    requires { ⌜ (length (now values) ≡ symbols) × Samples sampleWidth n (take n (now values)) ⌝ }
-    ensures { λ r. ⌜ (length (now (values .exit)) ≡ symbols) × (take (n + operations) (now (values .exit)) ≡ machine (take n (now (values .entry))) (operationsIn (now (netlist .entry)))) ⌝ }
+    requires { ⌜ (length (now values) ≡ maxSymbols) × Samples sampleWidth n (take n (now values)) ⌝ }
+    ensures { λ r. ⌜ (length (now (values .exit)) ≡ maxSymbols) × (take (n + operations) (now (values .exit)) ≡ machine (take n (now (values .entry))) (operationsIn (now (netlist .entry)))) ⌝ }
 {
     for k in 0..operations {
         let o = super::read::operation_at(netlist, operation_place(HEAD_LENGTH, k));
@@ -44,7 +44,7 @@ fn fill_outputs(
     netlist: &[u8],
     m: usize,
     operations: usize,
-    values: &[i64; SYMBOLS],
+    values: &[i64; MAX_SYMBOLS],
     outputs: &mut [i64],
 )
     requires { ⌜ NetlistRead (now netlist) ⌝ }

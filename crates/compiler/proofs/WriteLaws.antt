@@ -7,7 +7,7 @@ use native.Mathlib.Omega.{arith}
 use lib.IntN.{ℤ, pos}
 use lib.ListN.{length, getD, take, drop, set, replicate, take-append-drop, drop-of-length-le, length-append, length-map, length-drop}
 use lib.Seq.{drop-cons, take-suc, length-take-le}
-use Rattle.limits.specs.Limits.{maxColumns, sampleWidth, maxShift, symbols, maxCompiledWidth}
+use Rattle.limits.specs.Limits.{maxColumns, sampleWidth, maxShift, maxSymbols, maxCompiledWidth}
 use Rattle.layout.specs.declared.Operation.{Operation}
 use Rattle.layout.specs.declared.Output.{Output}
 use Rattle.layout.specs.Records.{Netlist, headLength, headBytes, operationLength, operationBytes, outputLength, outputBytes, totalsLength, totalsBytes, netlistBytes}
@@ -31,7 +31,7 @@ use Rattle.compilation.proofs.Counts.{length-with-widths}
 
 -- ---- a row that is written is read back
 
-pub appended-row : (table : List ℤ) (n : ℕ) (o : Operation) (symbol : ℕ) → n ≤ maxColumns → symbol < symbols → length table ≡ formsLength
+pub appended-row : (table : List ℤ) (n : ℕ) (o : Operation) (symbol : ℕ) → n ≤ maxColumns → symbol < maxSymbols → length table ≡ formsLength
     → row (formAppended table n o symbol) n symbol ≡ operationRow table n o
 appended-row table n o symbol l h r =
     columns-same 0 n (tableCoefficient (formAppended table n o symbol) symbol) (operationCoefficient table o)
@@ -182,7 +182,7 @@ module _ (n : ℕ) (os : List Operation) where
 
   -- ---- depths
 
-  module _ (w : Writable compiledLimits n os) (table : List ℕ) (k : ℕ) (h : k < length os) (size : length table ≡ symbols) (e : take (n + k) table ≡ depths (replicate n 0) (take k os)) where
+  module _ (w : Writable compiledLimits n os) (table : List ℕ) (k : ℕ) (h : k < length os) (size : length table ≡ maxSymbols) (e : take (n + k) table ≡ depths (replicate n 0) (take k os)) where
     up-to-next : take k os ++ (getD os k noOperation ∷ []) ≡ take (suc k) os
     up-to-next = sym (take-suc os k noOperation h)
 

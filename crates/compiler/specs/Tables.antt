@@ -5,7 +5,7 @@ use Prim.Native.Nat.{ℕ, _+_, _≤_, _<_}
 use mathlib.Core.List.{List, map}
 use lib.IntN.{ℤ}
 use lib.ListN.{length, getD}
-use Rattle.limits.specs.Limits.{maxColumns, sampleWidth, maxShift, symbols}
+use Rattle.limits.specs.Limits.{maxColumns, sampleWidth, maxShift, maxSymbols}
 use Rattle.layout.specs.declared.Operation.{Operation}
 use Rattle.layout.specs.declared.Output.{Output}
 use Rattle.layout.specs.Records.{Netlist}
@@ -30,7 +30,7 @@ EarlierOutputs l n os outputs = (i : ℕ) → i < length outputs → OutputOpera
 -- outputs whose coefficients are worked out from a table
 pub record WritableOutputs (table : List ℤ) (n : ℕ) (os : List Output) : Type 0 where
   pub inputs : n ≤ maxColumns
-  pub symbol : (i : ℕ) → i < length os → getD os i noOutput .symbol < symbols
+  pub symbol : (i : ℕ) → i < length os → getD os i noOutput .symbol < maxSymbols
   pub shift : (i : ℕ) → i < length os → getD os i noOutput .shift ≤ maxShift
   pub range : (i : ℕ) → i < length os → SmallRange sampleWidth (outputRow table n (getD os i noOutput))
 

@@ -13,7 +13,7 @@ ghost use mathlib.Core.Bool.{xor};
 ghost use mathlib.Core.List.{_++_, map};
 ghost use Prim.Native.Nat.{_+_, _≤_, pred};
 ghost use lib.ListN.{length};
-ghost use Rattle.limits.specs.Limits.{maxRows, maxColumns, maxOperations, symbols};
+ghost use Rattle.limits.specs.Limits.{maxRows, maxColumns, maxOperations, maxSymbols};
 ghost use Rattle.eliminate.specs.State.{rowTerms, rowsTerms};
 ghost use Rattle.elimination.specs.Rows.{plainCount};
 ghost use Rattle.compiler.specs.Lists.{divisorsList, operationsList, outputsList};
@@ -172,7 +172,7 @@ pub fn plain_count(rows: Rows) -> usize
 
 // The rows' outputs; the first chain's first operation has the symbol `first`.
 pub fn row_outputs(rows: Rows, first: u16) -> Outputs
-    requires { ⌜ first + plainCount (rowsTerms rows) ≤ symbols ⌝ }
+    requires { ⌜ first + plainCount (rowsTerms rows) ≤ maxSymbols ⌝ }
     requires { ⌜ length (rowsTerms rows) ≤ maxRows ⌝ }
     ensures { λ r. ⌜ outputsList r ≡ rowOutputs first (rowsTerms rows) ⌝ }
 {

@@ -15,7 +15,7 @@ ghost use mathlib.Core.Path.{_≡_};
 ghost use mathlib.Core.List.{[], _++_, flatMap, map};
 ghost use Prim.Native.Nat.{_≤_, _<_};
 ghost use lib.ListN.{length, drop};
-ghost use Rattle.limits.specs.Limits.{maxColumns, sampleWidth, maxOperations, symbols};
+ghost use Rattle.limits.specs.Limits.{maxColumns, sampleWidth, maxOperations, maxSymbols};
 ghost use Rattle.layout.specs.Records.{headLength, operationLength, operationBytes, outputBytes, netlistBytes};
 ghost use Rattle.layout.specs.Places.{operationPlace, outputPlace, netlistLength};
 ghost use Rattle.layout.specs.Written.{written};
@@ -35,7 +35,7 @@ fn write_operation(
     symbol: usize,
     n: usize,
 )
-    requires { ⌜ (symbol < symbols) × (n ≤ maxColumns) ⌝ }
+    requires { ⌜ (symbol < maxSymbols) × (n ≤ maxColumns) ⌝ }
     requires { ⌜ (o .a < symbol) × (o .b < symbol) ⌝ }
     requires { ⌜ SmallForms (now forms) n o × SmallRange sampleWidth (operationRow (now forms) n o) ⌝ }
     requires { ⌜ (length (now forms) ≡ formsLength) × (operationLength ≤ length (now buffer)) ⌝ }

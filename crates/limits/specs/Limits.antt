@@ -50,9 +50,9 @@ maxDivisors = maxOperations / 2
 abbrev pub termSymbols : ℕ
 termSymbols = maxColumns + maxDivisors
 
--- the symbols of a netlist, inputs and operations
-abbrev pub symbols : ℕ
-symbols = maxColumns + maxOperations
+-- the most symbols of a netlist: inputs and operations
+abbrev pub maxSymbols : ℕ
+maxSymbols = maxColumns + maxOperations
 
 -- so many bits hold the number of a column
 abbrev pub columnBits : ℕ

@@ -32,8 +32,8 @@ pub const MAX_DIVISORS: usize = MAX_OPERATIONS / 2;
 // The symbols of terms in rows: inputs and divisors.
 pub const TERM_SYMBOLS: usize = MAX_COLUMNS + MAX_DIVISORS;
 
-// The symbols of a netlist: inputs and operations.
-pub const SYMBOLS: usize = MAX_COLUMNS + MAX_OPERATIONS;
+// The most symbols of a netlist: inputs and operations.
+pub const MAX_SYMBOLS: usize = MAX_COLUMNS + MAX_OPERATIONS;
 
 // Whether m or n is outside 1 to 8.
 pub fn size_outside(m: u8, n: u8) -> bool

@@ -9,7 +9,7 @@ use native.Mathlib.Decide.{decLt, ℕ-discrete}
 use lib.IntN.{ℤ, pos}
 use lib.ListN.{length, getD, set, take, drop, replicate, length-set, length-append, length-replicate}
 use lib.Seq.{sets, length-sets, drop-cons, getD-set-same, getD-set-other, getD-take, take-suc-set}
-use Rattle.limits.specs.Limits.{maxColumns, symbols}
+use Rattle.limits.specs.Limits.{maxColumns, maxSymbols}
 use Rattle.layout.specs.declared.Operation.{Operation}
 use Rattle.layout.specs.declared.Output.{Output}
 use Rattle.width.specs.Machine.{entryAt, operationValue, machine, operationDepth, depths, outputValue, unit, entryForm, outputForm}
@@ -144,7 +144,7 @@ module _ (n : ℕ) (os : List Operation) (table : List ℤ) (H : HoldsForms n os
         last j = sym (rw (length-unit n j) at (machine-last (unit n j) os o))
 
     -- after the operation's row is written the table holds the forms of one operation more
-    pub appended-holds : n ≤ maxColumns → n + length os < symbols → HoldsForms n (os ++ (o ∷ [])) (formAppended table n o (n + length os))
+    pub appended-holds : n ≤ maxColumns → n + length os < maxSymbols → HoldsForms n (os ++ (o ∷ [])) (formAppended table n o (n + length os))
     appended-holds l r = record {
       room = length-sets table (symbol * maxColumns) (operationRow table n o) ∙ H .room;
       forms = λ k j a h. go k j (omega (arith, length-append os (o ∷ []))) h (decLt k symbol);

@@ -7,7 +7,7 @@ use mathlib.Core.List.{List, [], _∷_}
 use lib.IntN.{ℤ, pos, natAbs}
 use lib.ListN.{length, getD, set, replicate}
 use lib.Seq.{sets}
-use Rattle.limits.specs.Limits.{maxColumns, symbols}
+use Rattle.limits.specs.Limits.{maxColumns, maxSymbols}
 use Rattle.layout.specs.declared.Operation.{Operation}
 use Rattle.layout.specs.declared.Output.{Output}
 use Rattle.width.specs.Machine.{entryAt, shifted, joined, withSign, operationValue, unit, machine}
@@ -20,7 +20,7 @@ filled k x = replicate k x
 -- ---- the coefficients: those of a symbol stand in a row of its own, which has a place for every column
 
 abbrev pub formsLength : ℕ
-formsLength = symbols * maxColumns
+formsLength = maxSymbols * maxColumns
 
 abbrev pub tableCoefficient : List ℤ → ℕ → ℕ → ℤ
 tableCoefficient table symbol column = getD table (symbol * maxColumns + column) (pos 0)

@@ -5,19 +5,19 @@
 use layout::Operation;
 use layout::Output;
 use limits::MAX_COLUMNS;
-use limits::SYMBOLS;
+use limits::MAX_SYMBOLS;
 ghost use mathlib.Core.Path.{_≡_};
 ghost use Prim.Native.Nat.{_+_, _*_, _-_, _^_, _≤_, _<_, max, pred};
 ghost use lib.IntN.{pos};
 ghost use lib.ListN.{getD};
 ghost use lib.Seq.{sets};
-ghost use Rattle.limits.specs.Limits.{maxColumns, symbols};
+ghost use Rattle.limits.specs.Limits.{maxColumns, maxSymbols};
 ghost use Rattle.width.specs.Machine.{shifted, joined, withSign, entryAt, operationDepth, unit};
 ghost use Rattle.width.specs.Width.{positivePart, negativePart, positives, negatives, bits, widthOf, width};
 ghost use Rattle.width.specs.Table.{filled, formsLength, Small, SmallForms, SmallRange, row, outputRow, formAppended, formsStarted, valueAppended};
 
 // The length of a table of coefficients.
-pub const FORMS_LENGTH: usize = SYMBOLS * MAX_COLUMNS;
+pub const FORMS_LENGTH: usize = MAX_SYMBOLS * MAX_COLUMNS;
 
 // A·2^sA + B·2^sB, or A·2^sA − B·2^sB: of entries, and of their coefficients.
 pub fn combined(sign: u8, a: i64, sa: u8, b: i64, sb: u8) -> i64
@@ -110,7 +110,7 @@ struct Sums {
 
 // The sums of the positive and of the negative coefficients of a symbol.
 fn sums_of(table: &[i64; FORMS_LENGTH], symbol: usize, n: usize) -> Sums
-    requires { ⌜ (symbol < symbols) × (n ≤ maxColumns) ⌝ }
+    requires { ⌜ (symbol < maxSymbols) × (n ≤ maxColumns) ⌝ }
     requires { ⌜ positives (row (now table) n symbol) + negatives (row (now table) n symbol) < 2 ^ 62 ⌝ }
     ensures { λ r. ⌜ r ≡ record { positives = positives (row (now (table .entry)) n symbol); negatives = negatives (row (now (table .entry)) n symbol) } ⌝ }
 {
@@ -129,7 +129,7 @@ fn sums_of(table: &[i64; FORMS_LENGTH], symbol: usize, n: usize) -> Sums
 
 // The width of a symbol's entry over samples of s bits.
 pub fn entry_width(table: &[i64; FORMS_LENGTH], symbol: usize, n: usize, s: u8) -> u8
-    requires { ⌜ (symbol < symbols) × (n ≤ maxColumns) ⌝ }
+    requires { ⌜ (symbol < maxSymbols) × (n ≤ maxColumns) ⌝ }
     requires { ⌜ (1 ≤ s) × (s ≤ 62) ⌝ }
     requires { ⌜ SmallRange s (row (now table) n symbol) ⌝ }
     ensures { λ r. ⌜ r ≡ width s (row (now (table .entry)) n symbol) ⌝ }
@@ -140,7 +140,7 @@ pub fn entry_width(table: &[i64; FORMS_LENGTH], symbol: usize, n: usize, s: u8) 
 
 // The width of an output over samples of s bits: its entry's range, shifted, with the ends exchanged if it is minus.
 pub fn output_width(table: &[i64; FORMS_LENGTH], o: Output, n: usize, s: u8) -> u8
-    requires { ⌜ (o .symbol < symbols) × ((o .shift < 64) × (n ≤ maxColumns)) ⌝ }
+    requires { ⌜ (o .symbol < maxSymbols) × ((o .shift < 64) × (n ≤ maxColumns)) ⌝ }
     requires { ⌜ (1 ≤ s) × (s ≤ 62) ⌝ }
     requires { ⌜ SmallRange s (outputRow (now table) n o) ⌝ }
     ensures { λ r. ⌜ r ≡ width s (outputRow (now (table .entry)) n o) ⌝ }
@@ -161,7 +161,7 @@ pub fn output_width(table: &[i64; FORMS_LENGTH], o: Output, n: usize, s: u8) -> 
 
 // The coefficients of an operation, from the rows of its operands into the row of its symbol.
 pub fn append_form(table: &mut [i64; FORMS_LENGTH], o: Operation, symbol: usize, n: usize)
-    requires { ⌜ (symbol < symbols) × (n ≤ maxColumns) ⌝ }
+    requires { ⌜ (symbol < maxSymbols) × (n ≤ maxColumns) ⌝ }
     requires { ⌜ (o .a < symbol) × (o .b < symbol) ⌝ }
     requires { ⌜ SmallForms (now table) n o ⌝ }
     ensures { λ r. ⌜ now (table .exit) ≡ formAppended (now (table .entry)) n o symbol ⌝ }
@@ -198,8 +198,8 @@ pub fn start_forms(table: &mut [i64; FORMS_LENGTH], n: usize)
 }
 
 // One operation's depth: 1 more than the deeper operand's.
-pub fn operation_depth(depths: &[u16; SYMBOLS], o: Operation) -> u16
-    requires { ⌜ (o .a < symbols) × (o .b < symbols) ⌝ }
+pub fn operation_depth(depths: &[u16; MAX_SYMBOLS], o: Operation) -> u16
+    requires { ⌜ (o .a < maxSymbols) × (o .b < maxSymbols) ⌝ }
     requires { ⌜ (getD (now depths) (o .a) 0 < 65535) × (getD (now depths) (o .b) 0 < 65535) ⌝ }
     ensures { λ r. ⌜ r ≡ operationDepth (now (depths .entry)) o ⌝ }
 {
@@ -215,8 +215,8 @@ pub fn operation_depth(depths: &[u16; SYMBOLS], o: Operation) -> u16
 }
 
 // One operation on board values: its value, at its symbol.
-pub fn append_value(values: &mut [i64; SYMBOLS], o: Operation, symbol: usize)
-    requires { ⌜ (symbol < symbols) × ((o .a < symbols) × (o .b < symbols)) ⌝ }
+pub fn append_value(values: &mut [i64; MAX_SYMBOLS], o: Operation, symbol: usize)
+    requires { ⌜ (symbol < maxSymbols) × ((o .a < maxSymbols) × (o .b < maxSymbols)) ⌝ }
     requires { ⌜ Small (entryAt (now values) (o .a)) (o .sa) × Small (entryAt (now values) (o .b)) (o .sb) ⌝ }
     ensures { λ r. ⌜ now (values .exit) ≡ valueAppended (now (values .entry)) o symbol ⌝ }
 {
@@ -243,14 +243,14 @@ pub fn blank_forms() -> [i64; FORMS_LENGTH]
     [0; FORMS_LENGTH]
 }
 
-pub fn blank_values() -> [i64; SYMBOLS]
-    ensures { λ r. ⌜ r ≡ filled symbols (pos 0) ⌝ }
+pub fn blank_values() -> [i64; MAX_SYMBOLS]
+    ensures { λ r. ⌜ r ≡ filled maxSymbols (pos 0) ⌝ }
 {
-    [0; SYMBOLS]
+    [0; MAX_SYMBOLS]
 }
 
-pub fn blank_depths() -> [u16; SYMBOLS]
-    ensures { λ r. ⌜ r ≡ filled symbols 0 ⌝ }
+pub fn blank_depths() -> [u16; MAX_SYMBOLS]
+    ensures { λ r. ⌜ r ≡ filled maxSymbols 0 ⌝ }
 {
-    [0; SYMBOLS]
+    [0; MAX_SYMBOLS]
 }

@@ -8,7 +8,7 @@ use native.Mathlib.Numerals.{add-one}
 use lib.IntN.{ℤ}
 use lib.ListN.{length, getD, drop}
 use borrow.Author.Tests.{not-true, not-false}
-use Rattle.limits.specs.Limits.{maxRows, maxColumns, maxOperations, symbols}
+use Rattle.limits.specs.Limits.{maxRows, maxColumns, maxOperations, maxSymbols}
 use Rattle.layout.specs.declared.Output.{Output}
 use Rattle.layout.specs.Matrix.{rows, columns, matrix, coefficientsFrom}
 use Rattle.layout.specs.Records.{headLength, outputKind, outputLength, outputOf}
@@ -88,7 +88,7 @@ module _ (c : tie.In-loop Inv-loop μ-loop) where
   limits : OutputOperand readLimits (headAt b .n + headAt b .operations) o
   limits = output-there b (H .read) i inside .1 .operand
 
-  below : o .symbol < symbols
+  below : o .symbol < maxSymbols
   below = let h = head-limits b (H .read) in omega (arith, limits .symbol, h .limits .columns-most, h .few)
 
 output-place-requires : tie.Need-output-place-requires Inv-loop μ-loop
@@ -117,7 +117,7 @@ module _ (c : tie.After-output-at Inv-loop μ-loop) where
 
 same-row-requires : tie.Need-same-row-requires Inv-loop μ-loop
 same-row-requires c κs = let D = d c in
-    subst (λ (p : Output). ((n D ≤ maxColumns) × ((i D * n D ≤ maxRows * maxColumns) × (p .symbol < symbols))) × RowReady (mx D) (i D * n D) (n D) (forms D) p) (sym (read c))
+    subst (λ (p : Output). ((n D ≤ maxColumns) × ((i D * n D ≤ maxRows * maxColumns) × (p .symbol < maxSymbols))) × RowReady (mx D) (i D * n D) (n D) (forms D) p) (sym (read c))
     ((few D .2, (index D, below D)), ready c)
 
 module _ (c : tie.After-same-row Inv-loop μ-loop) where

@@ -10,7 +10,7 @@ use lib.Seq.{sets}
 use lib.Signed.{mag}
 use mir.Syntax.{w64}
 use mir.Val.{SFits, toZ, ofZ}
-use Rattle.limits.specs.Limits.{maxRows, maxOperations, symbols}
+use Rattle.limits.specs.Limits.{maxRows, maxOperations, maxSymbols}
 use Rattle.integers.proofs.Held.{is, held, call-result}
 use Rattle.layout.specs.declared.Output.{Output}
 use Rattle.layout.specs.Records.{headLength, outputKind, outputLength, outputOf}
@@ -68,7 +68,7 @@ module _ (c : tie.In-loop Inv-loop μ-loop) where
   limits : OutputOperand readLimits (headAt b .n + headAt b .operations) o
   limits = output-there b N i inside .1 .operand
 
-  below : o .symbol < symbols
+  below : o .symbol < maxSymbols
   below = omega (arith, limits .symbol, head-limits b N .limits .columns-most, head-limits b N .few)
 
 output-place-requires : tie.Need-output-place-requires Inv-loop μ-loop

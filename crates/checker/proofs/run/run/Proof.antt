@@ -5,7 +5,7 @@ use mathlib.Core.List.{List}
 use native.Mathlib.Omega.{arith}
 use lib.IntN.{ℤ, pos}
 use lib.ListN.{length, take}
-use Rattle.limits.specs.Limits.{sampleWidth, symbols}
+use Rattle.limits.specs.Limits.{sampleWidth, maxSymbols}
 use Rattle.layout.specs.Places.{headAt, operationsIn, netlistIn}
 use Rattle.width.specs.Machine.{machine}
 use Rattle.width.specs.Width.{Samples}
@@ -88,7 +88,7 @@ blank-values-requires c κs = search needs
 
 start-values-requires : tie.Need-start-values-requires
 start-values-requires c κs = let v = c .before in let x = v .before .before in let e = x .before .before .before .before in
-    (omega (arith, x .before .if2 .left, n-is e, head-limits (b (d e)) (N e) .limits .columns-most), ap (λ (l : List ℤ). length l) (v .blank-values .ensures) ∙ length-filled (pos 0) symbols)
+    (omega (arith, x .before .if2 .left, n-is e, head-limits (b (d e)) (N e) .limits .columns-most), ap (λ (l : List ℤ). length l) (v .blank-values .ensures) ∙ length-filled (pos 0) maxSymbols)
 
 -- the samples are in the table
 module _ (c : tie.After-start-values) where

@@ -6,7 +6,7 @@ use native.Mathlib.Omega.{arith}
 use native.Mathlib.Numerals.{add-one}
 use lib.IntN.{ℤ}
 use lib.ListN.{take}
-use Rattle.limits.specs.Limits.{symbols}
+use Rattle.limits.specs.Limits.{maxSymbols}
 use Rattle.layout.specs.declared.Operation.{Operation}
 use Rattle.layout.specs.Records.{operationKind, operationLength, operationOf}
 use Rattle.layout.specs.Places.{payloadOf, headAt, operationAt, firstOperations}
@@ -58,7 +58,7 @@ module _ (c : tie.In-loop Inv-loop μ-loop) where
   inside : k < headAt b .operations
   inside = omega (arith, s .pre .1 .0 .1, c .loop-test .taken)
 
-  small : n + k < symbols
+  small : n + k < maxSymbols
   small = omega (arith, inside, same, head-limits b N .limits .columns-most, head-limits b N .few)
 
   limits : OperationLimits readLimits (n + k) (operationAt b k)

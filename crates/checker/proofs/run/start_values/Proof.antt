@@ -11,7 +11,7 @@ use lib.Seq.{take-length}
 use lib.Signed.{mag}
 use mir.Syntax.{w16, w64}
 use mir.Val.{SFits, toZ, ofZ}
-use Rattle.limits.specs.Limits.{sampleWidth, symbols}
+use Rattle.limits.specs.Limits.{sampleWidth, maxSymbols}
 use Rattle.integers.proofs.Held.{is, held, need-cast, held-cast}
 use Rattle.width.specs.Width.{Within}
 use Rattle.checker.proofs.BoardLaws.{sample-within, sample-next}
@@ -23,7 +23,7 @@ abbrev Seen : List ℤ → ℕ → Type 0
 Seen samples j = (i : ℕ) → i < j → Within sampleWidth (getD samples i (pos 0))
 
 abbrev Inv-loop : tie.InvT-loop
-Inv-loop samples values₀ n j₀ values j = (j ≤ n) × ((length values ≡ symbols) × ((take j values ≡ take j samples) × Seen samples j))
+Inv-loop samples values₀ n j₀ values j = (j ≤ n) × ((length values ≡ maxSymbols) × ((take j values ≡ take j samples) × Seen samples j))
 
 abbrev μ-loop : tie.MeasureT-loop
 μ-loop samples values₀ n j₀ values j = n - j

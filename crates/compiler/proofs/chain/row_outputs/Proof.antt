@@ -6,7 +6,7 @@ use mathlib.Core.Path.{_≡_, refl, ap, _∙_}
 use mathlib.Core.List.{[], _∷_, _++_}
 use native.Mathlib.Numerals.{add-one}
 use lib.ListN.{length, getD, drop}
-use Rattle.limits.specs.Limits.{symbols}
+use Rattle.limits.specs.Limits.{maxSymbols}
 use Rattle.layout.specs.declared.Output.{Output}
 use Rattle.elimination.specs.Rows.{Row, plainCount}
 use Rattle.eliminate.specs.State.{rowTerms, rowsTerms}
@@ -18,7 +18,7 @@ use Rattle.compiler.proofs.chain.row_outputs.Tie as tie
 
 abbrev Inv-loop : tie.InvT-loop
 Inv-loop rows first m out₀ next₀ i₀ out next i =
-    (i ≤ m) × (length (outputsList out) ≡ i) × (next + plainCount (drop i (rowsTerms rows)) ≤ symbols)
+    (i ≤ m) × (length (outputsList out) ≡ i) × (next + plainCount (drop i (rowsTerms rows)) ≤ maxSymbols)
     × (outputsList out ++ rowOutputs next (drop i (rowsTerms rows)) ≡ rowOutputs first (rowsTerms rows))
 
 abbrev μ-loop : tie.MeasureT-loop

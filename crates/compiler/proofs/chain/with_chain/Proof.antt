@@ -6,7 +6,7 @@ use mathlib.Core.Path.{_≡_, refl, ap, _∙_}
 use mathlib.Core.List.{List, [], _∷_, _++_}
 use native.Mathlib.Numerals.{add-one}
 use lib.ListN.{length, getD, drop}
-use Rattle.limits.specs.Limits.{maxOperations, symbols}
+use Rattle.limits.specs.Limits.{maxOperations, maxSymbols}
 use Rattle.layout.specs.declared.Operation.{Operation}
 use Rattle.eliminate.specs.State.{rowTerms, noTerm}
 use Rattle.compiler.specs.Lists.{operationsList}
@@ -17,7 +17,7 @@ use Rattle.compiler.proofs.chain.with_chain.Tie as tie
 
 abbrev Inv-loop : tie.InvT-loop
 Inv-loop row n count turned out₀ symbol₀ shift₀ next₀ i₀ out symbol shift next i =
-    (i ≤ count) × (length (operationsList out) + (count - i) ≤ maxOperations) × (next + (count - i) ≤ symbols)
+    (i ≤ count) × (length (operationsList out) + (count - i) ≤ maxOperations) × (next + (count - i) ≤ maxSymbols)
     × (operationsList out ++ chainFrom symbol shift turned next (drop i (rowTerms row)) ≡ operationsList out₀ ++ chainFrom symbol₀ shift₀ turned next₀ (drop 1 (rowTerms row)))
 
 abbrev μ-loop : tie.MeasureT-loop

@@ -7,7 +7,7 @@ use mathlib.Core.List.{List}
 use native.Mathlib.Numerals.{add-one}
 use lib.ListN.{length, getD, take, set, replicate, length-set}
 use lib.Seq.{take-all}
-use Rattle.limits.specs.Limits.{symbols}
+use Rattle.limits.specs.Limits.{maxSymbols}
 use Rattle.layout.specs.declared.Operation.{Operation}
 use Rattle.width.specs.Machine.{depths, depth, operationDepth}
 use Rattle.width.proofs.DepthLaws.{depth-none}
@@ -21,7 +21,7 @@ use Rattle.compiler.proofs.write.depth_of.Tie as tie
 
 abbrev Inv-loop : tie.InvT-loop
 Inv-loop operations n count table₀ largest₀ k₀ table largest k =
-    (k ≤ count) × (length table ≡ symbols) × (take (n + k) table ≡ depths (replicate n 0) (take k (operationsList operations)))
+    (k ≤ count) × (length table ≡ maxSymbols) × (take (n + k) table ≡ depths (replicate n 0) (take k (operationsList operations)))
     × (largest ≡ depth n (take k (operationsList operations)))
 
 abbrev μ-loop : tie.MeasureT-loop
@@ -37,8 +37,8 @@ loop-holds : tie.Need-loop-holds Inv-loop μ-loop
 loop-holds c =
     let s = c .before .before in
     let n = s .args .n in
-    let few : n ≤ symbols = omega (arith, s .pre .inputs) in
-    (omega arith, ap length (c .blank-depths .ensures) ∙ length-filled 0 symbols, ap (take (n + 0)) (c .blank-depths .ensures) ∙ depths-start n symbols few, sym (depth-none n))
+    let few : n ≤ maxSymbols = omega (arith, s .pre .inputs) in
+    (omega arith, ap length (c .blank-depths .ensures) ∙ length-filled 0 maxSymbols, ap (take (n + 0)) (c .blank-depths .ensures) ∙ depths-start n maxSymbols few, sym (depth-none n))
 
 -- what is asked of the operations
 module _ (c : tie.In-loop Inv-loop μ-loop) where
@@ -54,7 +54,7 @@ module _ (c : tie.In-loop Inv-loop μ-loop) where
   inside : c .before .loop .k < length os
   inside = omega arith
 
-  symbol-below : s .args .n + c .before .loop .k < symbols
+  symbol-below : s .args .n + c .before .loop .k < maxSymbols
   symbol-below = omega (arith, inside, writable .few, writable .inputs)
 
   earlier : (symbol : ℕ) → symbol < s .args .n + c .before .loop .k → getD (c .before .loop .depths) symbol 0 < 65535

@@ -8,7 +8,7 @@ use native.Mathlib.Numerals.{add-one}
 use lib.IntN.{ℤ}
 use lib.ListN.{length, getD, take, length-take, length-drop}
 use lib.Seq.{take-all}
-use Rattle.limits.specs.Limits.{sampleWidth, symbols}
+use Rattle.limits.specs.Limits.{sampleWidth, maxSymbols}
 use Rattle.layout.specs.declared.Operation.{Operation}
 use Rattle.layout.specs.Records.{headLength, operationLength, operationBytes}
 use Rattle.layout.specs.Places.{operationPlace}
@@ -87,7 +87,7 @@ write-operation-requires c κs =
     let w = writable g in
     let e = sym (c .before .before .before .operation .ensures) in
     let forms = L .loop .forms in
-    let symbol : n + k < symbols = omega (arith, inside g, w .few, w .inputs) in (
+    let symbol : n + k < maxSymbols = omega (arith, inside g, w .few, w .inputs) in (
       (symbol, w .inputs),
       (
         (subst (λ (o : Operation). o .a < n + k) e (w .operation k (inside g) .first-earlier), subst (λ (o : Operation). o .b < n + k) e (w .operation k (inside g) .second-earlier)),

@@ -6,7 +6,7 @@ use mathlib.Core.Path.{_≡_, refl, sym, ap, subst, _∙_}
 use mathlib.Core.List.{List, _++_, flatMap, map}
 use native.Mathlib.Numerals.{add-one}
 use lib.ListN.{length, getD, take, drop, length-take, length-drop}
-use Rattle.limits.specs.Limits.{sampleWidth, symbols}
+use Rattle.limits.specs.Limits.{sampleWidth, maxSymbols}
 use Rattle.layout.specs.declared.Output.{Output}
 use Rattle.layout.specs.Records.{headLength, outputLength, outputBytes}
 use Rattle.layout.specs.Places.{operationPlace, outputPlace}
@@ -63,7 +63,7 @@ output-width-requires c κs =
     let i = g .before .loop .i in
     let e = sym (c .output .ensures) in
     let shift : getD (os g) i noOutput .shift < 64 = omega (arith, w .shift i (inside g)) in (
-      (subst (λ (o : Output). o .symbol < symbols) e (w .symbol i (inside g)), (subst (λ (o : Output). o .shift < 64) e shift, w .inputs)),
+      (subst (λ (o : Output). o .symbol < maxSymbols) e (w .symbol i (inside g)), (subst (λ (o : Output). o .shift < 64) e shift, w .inputs)),
       ((omega arith, omega arith), subst (λ (o : Output). SmallRange sampleWidth (outputRow (s g .args .forms .now) (s g .args .n) o)) e (w .range i (inside g))),
     )
 
