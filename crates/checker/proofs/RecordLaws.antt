@@ -151,39 +151,39 @@ module _ (b : List ℕ) (place kind size : ℕ) where
 
 -- ---- the refusals of a netlist's records before their fields are tested
 
-abbrev pub headRecord : List ℕ → ℕ
-headRecord b = recordRefusal b 0 headKind headLength
+abbrev pub headRecordRefusal : List ℕ → ℕ
+headRecordRefusal b = recordRefusal b 0 headKind headLength
 
-abbrev pub operationRecord : List ℕ → ℕ → ℕ
-operationRecord b k = recordRefusal b (operationPlace headLength k) operationKind operationLength
+abbrev pub operationRecordRefusal : List ℕ → ℕ → ℕ
+operationRecordRefusal b k = recordRefusal b (operationPlace headLength k) operationKind operationLength
 
 -- output i behind so many operations
-abbrev pub outputRecord : List ℕ → ℕ → ℕ → ℕ
-outputRecord b operations i = recordRefusal b (outputPlace headLength operations i) outputKind outputLength
+abbrev pub outputRecordRefusal : List ℕ → ℕ → ℕ → ℕ
+outputRecordRefusal b operations i = recordRefusal b (outputPlace headLength operations i) outputKind outputLength
 
-abbrev pub totalsRecord : List ℕ → ℕ → ℕ
-totalsRecord b place = recordRefusal b place totalsKind totalsLength
+abbrev pub totalsRecordRefusal : List ℕ → ℕ → ℕ
+totalsRecordRefusal b place = recordRefusal b place totalsKind totalsLength
 
 -- ---- the head
 
 module _ (b : List ℕ) where
-  head-tests : oneTest 9 (headRecord b) (headInRange (headAt b)) ≡ headRefusal b
+  head-tests : oneTest 9 (headRecordRefusal b) (headInRange (headAt b)) ≡ headRefusal b
   unfolding headRefusal
   head-tests = refl
 
-  pub head-stops : (headRecord b ≡ 0 → ⊥) → headRecord b ≡ headRefusal b
-  head-stops h = stays-one 9 (headRecord b) (headInRange (headAt b)) h ∙ head-tests
+  pub head-stops : (headRecordRefusal b ≡ 0 → ⊥) → headRecordRefusal b ≡ headRefusal b
+  head-stops h = stays-one 9 (headRecordRefusal b) (headInRange (headAt b)) h ∙ head-tests
 
-  module _ (due : headRecord b ≡ 0) where
+  module _ (due : headRecordRefusal b ≡ 0) where
     pub head-outside : headInRange (headAt b) ≡ false → 9 ≡ headRefusal b
-    head-outside h = one-fails 9 (headRecord b) (headInRange (headAt b)) due h ∙ head-tests
+    head-outside h = one-fails 9 (headRecordRefusal b) (headInRange (headAt b)) due h ∙ head-tests
 
     pub head-accepted : headInRange (headAt b) ≡ true → 0 ≡ headRefusal b
-    head-accepted h = one-passes 9 (headRecord b) (headInRange (headAt b)) due h ∙ head-tests
+    head-accepted h = one-passes 9 (headRecordRefusal b) (headInRange (headAt b)) due h ∙ head-tests
 
-  pub head-due : headRefusal b ≡ 0 → (headRecord b ≡ 0) × HeadLimits readLimits (headAt b)
+  pub head-due : headRefusal b ≡ 0 → (headRecordRefusal b ≡ 0) × HeadLimits readLimits (headAt b)
   head-due e =
-      let p = one-passed 9 (headRecord b) (headInRange (headAt b)) (omega arith) (head-tests ∙ e) in
+      let p = one-passed 9 (headRecordRefusal b) (headInRange (headAt b)) (omega arith) (head-tests ∙ e) in
       (p .0, head-says (headAt b) .0 (p .1))
 
 -- ---- operation k behind the k operations before it
@@ -195,39 +195,39 @@ module _ (b : List ℕ) (n k : ℕ) where
   abbrev right : Bool
   right = widthRight (operationAt b k .width) (operationWidth n (firstOperations b k) (operationAt b k))
 
-  operation-tests : twoTests (operationRecord b k) (operationInRange (n + k) (operationAt b k))
+  operation-tests : twoTests (operationRecordRefusal b k) (operationInRange (n + k) (operationAt b k))
       (widthRight (operationAt b k .width) (operationWidth n (firstOperations b k) (operationAt b k)))
       ≡ operationRefusal b n (firstOperations b k)
   unfolding operationRefusal
-  operation-tests = ap (λ (j : ℕ). twoTests (operationRecord b j) (operationInRange (n + j) (operationAt b j))
+  operation-tests = ap (λ (j : ℕ). twoTests (operationRecordRefusal b j) (operationInRange (n + j) (operationAt b j))
       (widthRight (operationAt b j .width) (operationWidth n (firstOperations b k) (operationAt b j)))) (sym (length-first (operationAt b) k))
 
-  pub operation-stops : (operationRecord b k ≡ 0 → ⊥) → operationRecord b k ≡ operationRefusal b n (firstOperations b k)
-  operation-stops h = stays-two (operationRecord b k) inRange right h ∙ operation-tests
+  pub operation-stops : (operationRecordRefusal b k ≡ 0 → ⊥) → operationRecordRefusal b k ≡ operationRefusal b n (firstOperations b k)
+  operation-stops h = stays-two (operationRecordRefusal b k) inRange right h ∙ operation-tests
 
-  module _ (due : operationRecord b k ≡ 0) where
+  module _ (due : operationRecordRefusal b k ≡ 0) where
     pub operation-outside : operationInRange (n + k) (operationAt b k) ≡ false → 9 ≡ operationRefusal b n (firstOperations b k)
-    operation-outside h = two-outside (operationRecord b k) inRange right due h ∙ operation-tests
+    operation-outside h = two-outside (operationRecordRefusal b k) inRange right due h ∙ operation-tests
 
     module _ (inside : operationInRange (n + k) (operationAt b k) ≡ true) where
       pub operation-wide : widthRight (operationAt b k .width) (operationWidth n (firstOperations b k) (operationAt b k)) ≡ false
           → 10 ≡ operationRefusal b n (firstOperations b k)
-      operation-wide h = two-wide (operationRecord b k) inRange right due inside h ∙ operation-tests
+      operation-wide h = two-wide (operationRecordRefusal b k) inRange right due inside h ∙ operation-tests
 
       pub operation-accepted : widthRight (operationAt b k .width) (operationWidth n (firstOperations b k) (operationAt b k)) ≡ true
           → 0 ≡ operationRefusal b n (firstOperations b k)
-      operation-accepted h = two-passes (operationRecord b k) inRange right due inside h ∙ operation-tests
+      operation-accepted h = two-passes (operationRecordRefusal b k) inRange right due inside h ∙ operation-tests
 
-  pub operation-due : operationRefusal b n (firstOperations b k) ≡ 0 → (operationRecord b k ≡ 0) × OperationLimits readLimits (n + k) (operationAt b k)
+  pub operation-due : operationRefusal b n (firstOperations b k) ≡ 0 → (operationRecordRefusal b k ≡ 0) × OperationLimits readLimits (n + k) (operationAt b k)
   operation-due e =
-      let p = two-passed (operationRecord b k) inRange right (operation-tests ∙ e) in
+      let p = two-passed (operationRecordRefusal b k) inRange right (operation-tests ∙ e) in
       (p .0, operation-says (n + k) (operationAt b k) .0 (p .1))
 
 -- ---- output i of a netlist of the operations os
 
 module _ (b : List ℕ) (n k : ℕ) (os : List Operation) (count : length os ≡ k) (i : ℕ) where
   abbrev outputTested : ℕ → ℕ
-  outputTested j = twoTests (outputRecord b j i) (outputInRange (n + j) (outputAt b j i)) (widthRight (outputAt b j i .width) (outputWidth n os (outputAt b j i)))
+  outputTested j = twoTests (outputRecordRefusal b j i) (outputInRange (n + j) (outputAt b j i)) (widthRight (outputAt b j i .width) (outputWidth n os (outputAt b j i)))
 
   output-tests : outputTested k ≡ outputRefusal b n os i
   unfolding outputRefusal
@@ -239,23 +239,23 @@ module _ (b : List ℕ) (n k : ℕ) (os : List Operation) (count : length os ≡
   abbrev outputRight : Bool
   outputRight = widthRight (outputAt b k i .width) (outputWidth n os (outputAt b k i))
 
-  pub output-stops : (outputRecord b k i ≡ 0 → ⊥) → outputRecord b k i ≡ outputRefusal b n os i
-  output-stops h = stays-two (outputRecord b k i) outputInside outputRight h ∙ output-tests
+  pub output-stops : (outputRecordRefusal b k i ≡ 0 → ⊥) → outputRecordRefusal b k i ≡ outputRefusal b n os i
+  output-stops h = stays-two (outputRecordRefusal b k i) outputInside outputRight h ∙ output-tests
 
-  module _ (due : outputRecord b k i ≡ 0) where
+  module _ (due : outputRecordRefusal b k i ≡ 0) where
     pub output-outside : outputInRange (n + k) (outputAt b k i) ≡ false → 9 ≡ outputRefusal b n os i
-    output-outside h = two-outside (outputRecord b k i) outputInside outputRight due h ∙ output-tests
+    output-outside h = two-outside (outputRecordRefusal b k i) outputInside outputRight due h ∙ output-tests
 
     module _ (inside : outputInRange (n + k) (outputAt b k i) ≡ true) where
       pub output-wide : widthRight (outputAt b k i .width) (outputWidth n os (outputAt b k i)) ≡ false → 10 ≡ outputRefusal b n os i
-      output-wide h = two-wide (outputRecord b k i) outputInside outputRight due inside h ∙ output-tests
+      output-wide h = two-wide (outputRecordRefusal b k i) outputInside outputRight due inside h ∙ output-tests
 
       pub output-accepted : widthRight (outputAt b k i .width) (outputWidth n os (outputAt b k i)) ≡ true → 0 ≡ outputRefusal b n os i
-      output-accepted h = two-passes (outputRecord b k i) outputInside outputRight due inside h ∙ output-tests
+      output-accepted h = two-passes (outputRecordRefusal b k i) outputInside outputRight due inside h ∙ output-tests
 
-  pub output-due : outputRefusal b n os i ≡ 0 → (outputRecord b k i ≡ 0) × OutputLimits readLimits (n + k) (outputAt b k i)
+  pub output-due : outputRefusal b n os i ≡ 0 → (outputRecordRefusal b k i ≡ 0) × OutputLimits readLimits (n + k) (outputAt b k i)
   output-due e =
-      let p = two-passed (outputRecord b k i) outputInside outputRight (output-tests ∙ e) in
+      let p = two-passed (outputRecordRefusal b k i) outputInside outputRight (output-tests ∙ e) in
       (p .0, output-says (n + k) (outputAt b k i) .0 (p .1))
 
 -- ---- totals
@@ -264,22 +264,22 @@ module _ (b : List ℕ) (place : ℕ) (h : Head) (os : List Operation) where
   abbrev totalsSame : Bool
   totalsSame = totalsRight h os (totalsAt b place)
 
-  totals-tests : oneTest 11 (totalsRecord b place) (totalsRight h os (totalsAt b place)) ≡ totalsRefusal b place h os
+  totals-tests : oneTest 11 (totalsRecordRefusal b place) (totalsRight h os (totalsAt b place)) ≡ totalsRefusal b place h os
   unfolding totalsRefusal
   totals-tests = refl
 
-  pub totals-stop : (totalsRecord b place ≡ 0 → ⊥) → totalsRecord b place ≡ totalsRefusal b place h os
-  totals-stop z = stays-one 11 (totalsRecord b place) totalsSame z ∙ totals-tests
+  pub totals-stop : (totalsRecordRefusal b place ≡ 0 → ⊥) → totalsRecordRefusal b place ≡ totalsRefusal b place h os
+  totals-stop z = stays-one 11 (totalsRecordRefusal b place) totalsSame z ∙ totals-tests
 
-  module _ (due : totalsRecord b place ≡ 0) where
+  module _ (due : totalsRecordRefusal b place ≡ 0) where
     pub totals-differ : (TotalsRight h os (totalsAt b place) → ⊥) → 11 ≡ totalsRefusal b place h os
-    totals-differ z = one-fails 11 (totalsRecord b place) totalsSame due (fails totalsSame (totals-says h os (totalsAt b place)) z) ∙ totals-tests
+    totals-differ z = one-fails 11 (totalsRecordRefusal b place) totalsSame due (fails totalsSame (totals-says h os (totalsAt b place)) z) ∙ totals-tests
 
     pub totals-accepted : TotalsRight h os (totalsAt b place) → 0 ≡ totalsRefusal b place h os
-    totals-accepted r = one-passes 11 (totalsRecord b place) totalsSame due (totals-says h os (totalsAt b place) .1 r) ∙ totals-tests
+    totals-accepted r = one-passes 11 (totalsRecordRefusal b place) totalsSame due (totals-says h os (totalsAt b place) .1 r) ∙ totals-tests
 
-  pub totals-due : totalsRefusal b place h os ≡ 0 → totalsRecord b place ≡ 0
-  totals-due e = one-passed 11 (totalsRecord b place) totalsSame (omega arith) (totals-tests ∙ e) .0
+  pub totals-due : totalsRefusal b place h os ≡ 0 → totalsRecordRefusal b place ≡ 0
+  totals-due e = one-passed 11 (totalsRecordRefusal b place) totalsSame (omega arith) (totals-tests ∙ e) .0
 
 -- ---- records of one kind, one after another
 

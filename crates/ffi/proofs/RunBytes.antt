@@ -1,5 +1,5 @@
 -- Run with the outputs as bytes. Run refuses every number of outputs but m alike, and m is from 1 to 8: so it makes no difference
--- that more than 8 outputs are not lent.
+-- that more outputs than any netlist has rows are not lent.
 -- Assumes nothing.
 use Prim.Native.Nat.{ℕ, _*_, _/_, _%_, _≤_, _<_}
 use mathlib.Core.Path.{_≡_, refl, sym, ap, _∙_}

@@ -17,7 +17,7 @@ use Rattle.samples.specs.Samples.{samplesOf}
 use Rattle.listing.specs.Listing.{refusedLine}
 use Rattle.run_text.specs.RunText.{valueLines, rowsRead, runText}
 
--- read says that there are at most 8 rows
+-- read says that there are no more rows than the most
 pub rows-few : (b : List ℕ) → AreBytes b → rowsRead b ≤ maxRows
 unfolding readAnswer
 rows-few b all = go (readNetlist b) refl

@@ -2,7 +2,7 @@
 use mathlib.Core.Path.{_≡_, sym, ap, _∙_}
 use Rattle.layout.specs.Places.{headAt}
 use Rattle.reading.specs.Read.{headInRange}
-use Rattle.checker.proofs.RecordLaws.{head-stops, head-outside, head-accepted, headRecord}
+use Rattle.checker.proofs.RecordLaws.{head-stops, head-outside, head-accepted, headRecordRefusal}
 use borrow.Author.Needs.{needs}
 use Rattle.checker.proofs.read.head_refusal.Statement.{statement}
 use Rattle.checker.proofs.read.head_refusal.Tie as tie
@@ -23,7 +23,7 @@ module _ (c : tie.After-head-in-range) where
   abbrev s : tie.Start
   s = c .before .before .before .before .before
 
-  due : headRecord (s .args .bytes .now) ≡ 0
+  due : headRecordRefusal (s .args .bytes .now) ≡ 0
   due = sym (c .before .before .before .record-refusal .ensures) ∙ c .before .before .if1 .left
 
   tested : headInRange (headAt (s .args .bytes .now)) ≡ c .head-in-range .result

@@ -7,7 +7,7 @@ use Rattle.layout.specs.Places.{headAt, totalsAt, operationsIn, totalsPlaceIn, 
 use Rattle.reading.specs.declared.ReadAnswer.{ReadAnswer}
 use Rattle.reading.specs.Read.{headRefusal, readNetlist}
 use Rattle.checker.specs.Tables.{NetlistHeld}
-use Rattle.checker.proofs.RecordLaws.{head-due, stop-answer, totals-due, totalsRecord}
+use Rattle.checker.proofs.RecordLaws.{head-due, stop-answer, totals-due, totalsRecordRefusal}
 use Rattle.checker.proofs.NetlistLaws.{head-declines, answer-refused, answer-accepted, answer-fields, place-is}
 use borrow.Author.Needs.{needs}
 use Rattle.checker.proofs.read.netlist.Statement.{statement}
@@ -73,7 +73,7 @@ there c = let x = c .before .before .before in c .output-place .ensures ∙ plac
 
 totals-at-requires : tie.Need-totals-at-requires
 totals-at-requires c κs = let x = c .before .before .before in
-    subst (λ (p : ℕ). totalsRecord (b x) p ≡ 0) (sym (there c)) (totals-due (b x) (totalsPlaceIn (b x)) (headAt (b x)) (operationsIn (b x)) (held x .read .totals-due))
+    subst (λ (p : ℕ). totalsRecordRefusal (b x) p ≡ 0) (sym (there c)) (totals-due (b x) (totalsPlaceIn (b x)) (headAt (b x)) (operationsIn (b x)) (held x .read .totals-due))
 
 returns-3 : tie.Need-returns-3
 returns-3 c = let p = c .before in let x = p .before .before .before in (

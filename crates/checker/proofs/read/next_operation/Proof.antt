@@ -19,7 +19,7 @@ use Rattle.reading.specs.Read.{recordRefusal, operationInRange, operationWidth,
 use Rattle.reading.specs.Exact.{readLimits}
 use Rattle.checker.specs.Tables.{FormsHeld, DepthsHeld}
 use Rattle.reading.proofs.Conditions.{operation-says}
-use Rattle.checker.proofs.RecordLaws.{width-says, operation-stops, operation-outside, operation-wide, operation-accepted, operationRecord}
+use Rattle.checker.proofs.RecordLaws.{width-says, operation-stops, operation-outside, operation-wide, operation-accepted, operationRecordRefusal}
 use Rattle.checker.proofs.HeldLaws.{operands-small, appended-width, appended-range, forms-appended, depth-asked, depths-appended}
 use borrow.Author.Needs.{needs}
 use Rattle.checker.proofs.read.next_operation.Statement.{statement}
@@ -45,7 +45,7 @@ module _ (c : tie.After-record-refusal) where
   abbrev k : ℕ
   k = s .args .k
 
-  refusal-is : c .record-refusal .result ≡ operationRecord b k
+  refusal-is : c .record-refusal .result ≡ operationRecordRefusal b k
   refusal-is = c .record-refusal .ensures ∙ ap (λ (p : ℕ). recordRefusal b p operationKind operationLength) (c .before .operation-place .ensures)
 
 returns : tie.Need-returns
@@ -69,7 +69,7 @@ module _ (c : tie.After-operation-in-range) where
   abbrev r : tie.After-record-refusal
   r = c .before .before .before
 
-  due : operationRecord (b r) (k r) ≡ 0
+  due : operationRecordRefusal (b r) (k r) ≡ 0
   due = sym (refusal-is r) ∙ c .before .before .if1 .left
 
   read : c .before .operation-at .result ≡ operationAt (b r) (k r)

@@ -18,7 +18,7 @@ use Rattle.width.specs.Netlist.{OutputOperand}
 use Rattle.reading.specs.Read.{recordRefusal, outputInRange, outputWidth, widthRight}
 use Rattle.reading.specs.Exact.{readLimits}
 use Rattle.reading.proofs.Conditions.{output-says}
-use Rattle.checker.proofs.RecordLaws.{output-stops, output-outside, output-wide, output-accepted, outputRecord}
+use Rattle.checker.proofs.RecordLaws.{output-stops, output-outside, output-wide, output-accepted, outputRecordRefusal}
 use Rattle.checker.proofs.HeldLaws.{output-row-width, output-range}
 use borrow.Author.Needs.{needs}
 use Rattle.checker.proofs.read.output_refusal.Statement.{statement}
@@ -50,7 +50,7 @@ module _ (s : tie.Start) where
   counted = length-first (operationAt b) k
 
 -- at the output's place
-refusal-is : (c : tie.After-record-refusal) → let s = c .before .before .before in c .record-refusal .result ≡ outputRecord (b s) (k s) (i s)
+refusal-is : (c : tie.After-record-refusal) → let s = c .before .before .before in c .record-refusal .result ≡ outputRecordRefusal (b s) (k s) (i s)
 refusal-is c = c .record-refusal .ensures ∙ ap (λ (p : ℕ). recordRefusal (b (c .before .before .before)) p outputKind outputLength) (c .before .output-place .ensures)
 
 returns : tie.Need-returns
@@ -76,7 +76,7 @@ module _ (c : tie.After-output-in-range) where
   abbrev o : Output
   o = outputAt (b s) (k s) (i s)
 
-  due : outputRecord (b s) (k s) (i s) ≡ 0
+  due : outputRecordRefusal (b s) (k s) (i s) ≡ 0
   due = sym (refusal-is r) ∙ c .before .before .if1 .left
 
   read : c .before .output-at .result ≡ outputAt (b s) (k s) (i s)

@@ -7,7 +7,7 @@ use Rattle.layout.specs.declared.Operation.{Operation}
 use Rattle.layout.specs.declared.Totals.{Totals}
 use Rattle.layout.specs.Places.{totalsAt, firstOperations}
 use Rattle.width.specs.Machine.{depth}
-use Rattle.checker.proofs.RecordLaws.{totals-stop, totals-differ, totals-accepted, totalsRecord}
+use Rattle.checker.proofs.RecordLaws.{totals-stop, totals-differ, totals-accepted, totalsRecordRefusal}
 use Rattle.checker.proofs.HeldLaws.{depth-held}
 use borrow.Author.Needs.{needs}
 use Rattle.checker.proofs.read.totals_refusal.Statement.{statement}
@@ -39,7 +39,7 @@ module _ (c : tie.After-totals-at) where
   abbrev s : tie.Start
   s = c .before .before .before .before
 
-  due : totalsRecord (b s) (place s) ≡ 0
+  due : totalsRecordRefusal (b s) (place s) ≡ 0
   due = sym (c .before .before .record-refusal .ensures) ∙ c .before .if1 .left
 
   count-is : c .totals-at .result .operations ≡ totalsAt (b s) (place s) .operations
