@@ -1,9 +1,9 @@
--- Document 01, "Netlist and board machine": divisors' operations, chains, outputs and the plain count, one item more at a time.
+-- Document 01, "Netlist and board machine": chains, outputs and the plain count, one item more at a time.
 -- Assumes nothing.
 use Prim.Native.Nat.{ℕ, suc, _+_, _-_, _≤_, _<_, pred}
 use mathlib.Core.Path.{_≡_, refl, sym, ap, _∙_}
 use mathlib.Core.Bool.{Bool, true, false, not, xor}
-use mathlib.Core.List.{List, [], _∷_, _++_, map, append-assoc, append-nil}
+use mathlib.Core.List.{List, [], _∷_, _++_, append-assoc, append-nil}
 use native.Mathlib.Omega.{arith}
 use lib.ListN.{length, getD, drop, length-append, drop-of-length-le}
 use lib.Seq.{drop-cons}
@@ -20,18 +20,6 @@ use Rattle.compilation.proofs.Chains.{chain-summed, chains-summed}
 
 pub snoc-length : {A : Type 0} (out after : List A) (x : A) → after ≡ out ++ (x ∷ []) → length after ≡ suc (length out)
 snoc-length out after x e = ap length e ∙ length-append out (x ∷ []) ∙ omega arith
-
--- ---- a function of each element
-
-module _ {A B : Type 0} (f : A → B) (ds : List A) (out : List B) (i : ℕ) where
-  pub map-next : (d : A) (after : List B) → i < length ds → after ≡ out ++ (f (getD ds i d) ∷ []) → after ++ map f (drop (suc i) ds) ≡ out ++ map f (drop i ds)
-  map-next d after h e =
-      ap (λ (l : List B). l ++ map f (drop (suc i) ds)) e
-      ∙ append-assoc out (f (getD ds i d) ∷ []) (map f (drop (suc i) ds))
-      ∙ ap (λ (l : List A). out ++ map f l) (sym (drop-cons ds i d h))
-
-  pub map-end : length ds ≤ i → out ≡ out ++ map f (drop i ds)
-  map-end h = sym (ap (λ (l : List A). out ++ map f l) (drop-of-length-le ds {i = i} h) ∙ append-nil out)
 
 -- ---- signs
 

@@ -1,31 +1,30 @@
--- Document 01, "Elimination": elimination to its end, one step at a time, where a step's answer says whether it has ended.
+-- Document 01, "Elimination": elimination to its end, one step at a time.
 -- Assumes nothing.
-use Prim.Native.Nat.{ℕ, suc, _+_, _≤_, _<_}
-use mathlib.Core.Path.{_≡_, sym, ap, ap₂, _∙_}
-use mathlib.Core.List.{List, [], _∷_, _++_, append-assoc, append-nil}
+use Prim.Native.Nat.{ℕ, suc, _+_, _*_, _≤_, _<_}
+use mathlib.Core.Path.{_≡_, refl, sym, ap, ap₂, _∙_}
+use mathlib.Core.List.{List, [], _∷_, _++_, map, append-assoc, append-nil, map-append}
 use native.Mathlib.Omega.{arith}
-use lib.Dec.{ltb}
-use borrow.Author.Tests.{ltb-true, ltb-false}
+use lib.ListN.{length, length-append, length-map}
+use Rattle.limits.specs.Limits.{maxColumns, maxOperations, termSymbols}
 use Rattle.elimination.specs.declared.Divisor.{Divisor}
 use Rattle.elimination.specs.Rows.{Row, plainCount}
-use Rattle.elimination.specs.Divisors.{score}
 use Rattle.elimination.specs.Elimination.{Scored, before, pick, rowsAfter, smallestFirst, Eliminated, eliminate, elimination}
-use Rattle.elimination.proofs.Tests.{by-bool}
 use Rattle.elimination.proofs.Counts.{plain-after}
 use Rattle.elimination.proofs.Pick.{pick-score}
 use Rattle.elimination.proofs.End.{from-ends, from-goes-on}
 use Rattle.eliminate.specs.State.{Ready}
-use Rattle.eliminate.specs.Step.{StepAnswer, stepAnswer}
-use Rattle.eliminate.proofs.Ready.{ready-after}
+use Rattle.eliminate.proofs.Ready.{ready-below, ready-after}
+use Rattle.layout.specs.declared.Operation.{Operation}
+use Rattle.compilation.specs.Chains.{divisorOperation}
 
 -- what is left to do, and what it comes to with what was done
-abbrev pub restOf : ℕ → List Divisor → List Row → Eliminated
+abbrev restOf : ℕ → List Divisor → List Row → Eliminated
 restOf symbol made rows = eliminate smallestFirst (plainCount rows) symbol made rows
 
-abbrev pub withRest : List Divisor → ℕ → Eliminated → Eliminated
+abbrev withRest : List Divisor → ℕ → Eliminated → Eliminated
 withRest made k e = record { divisors = made ++ e .divisors; replacements = k + e .replacements; remainingRows = e .remainingRows }
 
-pub rest-start : (n : ℕ) (rows : List Row) → withRest [] 0 (restOf n [] rows) ≡ elimination smallestFirst n rows
+rest-start : (n : ℕ) (rows : List Row) → withRest [] 0 (restOf n [] rows) ≡ elimination smallestFirst n rows
 unfolding elimination
 rest-start n rows =
     let e : Eliminated = restOf n [] rows in
@@ -51,40 +50,61 @@ module _ (symbol : ℕ) (made : List Divisor) (k : ℕ) (rows : List Row) where
       (append-assoc made (best .divisor ∷ []) (e .divisors)) sum
       ∙ ap (withRest made k) (sym (from-goes-on smallestFirst symbol made rows h))
 
-  -- nothing is picked from rows without operations
-  pub rest-none : plainCount rows ≡ 0 → record { divisors = made; replacements = k; remainingRows = rows } ≡ withRest made k (restOf symbol made rows)
-  rest-none z = rest-ends (by-bool (ltb (best .score) 2) (λ y. ltb-true (best .score) 2 y)
-      (λ n. let two : 2 ≤ best .score = ltb-false (best .score) 2 n in
-      absurd (omega (arith, pick-score before rows two, plain-after symbol (best .divisor) rows))))
+-- ---- before each step
 
-  -- a step that replaces nothing
-  pub rest-stops : (answer : StepAnswer) → answer ≡ stepAnswer symbol rows → answer .replaced ≡ 0
-      → record { divisors = made; replacements = k; remainingRows = rows } ≡ withRest made k (restOf symbol made rows)
-  unfolding stepAnswer
-  rest-stops answer e z = by-bool (ltb (best .score) 2)
-      (λ y. rest-ends (ltb-true (best .score) 2 y))
-      (λ n.
-      let two : 2 ≤ best .score = ltb-false (best .score) 2 n in
-      let same : answer .replaced ≡ best .score = ap (λ (a : StepAnswer). a .replaced) e ∙ rw (n, stepAnswer) in
-      absurd (omega arith))
+-- the operations are those of the divisors made so far, and what is left to do comes to elimination's end
+pub record BeforeStep (n : ℕ) (first : List Row) (symbol : ℕ) (operations : List Operation) (k : ℕ) (rows : List Row) : Type 0 where
+  pub made : List Divisor
+  pub operations-made : operations ≡ map divisorOperation made
+  pub ready : Ready symbol rows
+  pub next-symbol : symbol ≡ n + length made
+  pub few : 2 * length made + plainCount rows ≤ maxOperations
+  pub replaced : k + plainCount rows ≤ maxOperations
+  pub rest : withRest made k (restOf symbol made rows) ≡ elimination smallestFirst n first
 
-  -- a step that replaces pairs
-  pub record Moved (answer : StepAnswer) : Type 0 where
-    pub rest : withRest (made ++ (answer .divisor ∷ [])) (k + answer .replaced) (restOf (suc symbol) (made ++ (answer .divisor ∷ [])) (answer .rows)) ≡ withRest made k (restOf symbol made rows)
-    pub two : 2 ≤ answer .replaced
-    pub plain : plainCount (answer .rows) + answer .replaced ≡ plainCount rows
-    pub ready : Ready symbol rows → Ready (suc symbol) (answer .rows)
+pub before-first : (n : ℕ) (rows : List Row) → Ready n rows → plainCount rows ≤ maxOperations → BeforeStep n rows n [] 0 rows
+before-first n rows ready few =
+    record {
+      made = [];
+      operations-made = refl;
+      ready = ready;
+      next-symbol = omega arith;
+      few = omega (arith, few);
+      replaced = omega (arith, few);
+      rest = rest-start n rows;
+    }
 
-  moved : 2 ≤ best .score → Moved (record { rows = rowsAfter symbol (best .divisor) rows; divisor = best .divisor; replaced = best .score })
-  moved h = record {
-    rest = rest-goes-on h;
-    two = h;
-    plain = omega (arith, pick-score before rows h, plain-after symbol (best .divisor) rows);
-    ready = λ r. ready-after symbol (best .divisor) rows r;
-  }
+module _ {n : ℕ} {first : List Row} {symbol : ℕ} {operations : List Operation} {k : ℕ} {rows : List Row} (b : BeforeStep n first symbol operations k rows) where
+  pub length-made : length operations ≡ length (b .made)
+  length-made = ap length (b .operations-made) ∙ length-map (b .made) divisorOperation
 
-  pub rest-moves : (answer : StepAnswer) → answer ≡ stepAnswer symbol rows → (answer .replaced ≡ 0 → ⊥) → Moved answer
-  unfolding stepAnswer
-  rest-moves answer e z = by-bool (ltb (best .score) 2)
-      (λ y. absurd (z (ap (λ (a : StepAnswer). a .replaced) e ∙ rw (y, stepAnswer))))
-      (λ n. rw (e, n, stepAnswer) (moved (ltb-false (best .score) 2 n)))
+  -- there is a table of the rows
+  pub within-table : n ≤ maxColumns → Ready termSymbols rows
+  within-table h = ready-below symbol termSymbols (omega (arith, b .next-symbol, b .few)) rows (b .ready)
+
+  module _ (best : Scored) (e : best ≡ pick before rows) where
+    pub ended-is : best .score < 2 → record { divisors = b .made; replacements = k; remainingRows = rows } ≡ elimination smallestFirst n first
+    ended-is h = rest-ends symbol (b .made) k rows (rw e at h) ∙ b .rest
+
+    module _ (h : 2 ≤ best .score) where
+      -- a step takes as many terms as its score
+      pub plain-less : plainCount (rowsAfter symbol (best .divisor) rows) + best .score ≡ plainCount rows
+      plain-less = let two : 2 ≤ pick before rows .score = rw e at h in rw e (omega (arith, pick-score before rows two, plain-after symbol (pick before rows .divisor) rows))
+
+      pub next-within : n ≤ maxColumns → symbol < termSymbols
+      next-within l = omega (arith, plain-less, b .next-symbol, b .few)
+
+      pub before-next : (after : List Operation) → after ≡ operations ++ (divisorOperation (best .divisor) ∷ [])
+          → BeforeStep n first (suc symbol) after (k + best .score) (rowsAfter symbol (best .divisor) rows)
+      before-next after a =
+          let d : Divisor = best .divisor in
+          let l : length (b .made ++ (d ∷ [])) ≡ length (b .made) + 1 = length-append (b .made) (d ∷ []) in
+          record {
+            made = b .made ++ (d ∷ []);
+            operations-made = a ∙ ap (λ (os : List Operation). os ++ (divisorOperation d ∷ [])) (b .operations-made) ∙ sym (map-append divisorOperation (b .made) (d ∷ []));
+            ready = ready-after symbol d rows (b .ready);
+            next-symbol = omega (arith, l, b .next-symbol);
+            few = omega (arith, l, plain-less, b .few);
+            replaced = omega (arith, plain-less, b .replaced);
+            rest = rw e (rest-goes-on symbol (b .made) k rows (rw e at h)) ∙ b .rest;
+          }

@@ -18,7 +18,6 @@ use Rattle.layout.specs.Written.{written}
 use Rattle.layout.proofs.LittleEndian.{AreBytes}
 use Rattle.width.specs.Machine.{depth}
 use Rattle.width.specs.Netlist.{OperationLimits, OutputOperand}
-use Rattle.elimination.specs.declared.Divisor.{Divisor}
 use Rattle.elimination.specs.Rows.{Row, matrixRows, plainCount}
 use Rattle.elimination.specs.Elimination.{Eliminated, smallestFirst, elimination, matrixElimination}
 use Rattle.elimination.proofs.Order.{Columns, matrix-well-formed}
@@ -121,10 +120,10 @@ netlist-is bytes = refl
 -- ---- compile's answer and buffer
 
 -- the operations of divisors and remaining rows, and the outputs
-pub operations-of : (k : ℕ) (end : Eliminated) (made all : List Operation) (ds : List Divisor) (remaining : List Row)
-    → made ≡ map divisorOperation ds → all ≡ made ++ chains (k + length made) remaining → ds ≡ end .divisors → remaining ≡ end .remainingRows → all ≡ operationsOf k end
+pub operations-of : (k : ℕ) (end : Eliminated) (made all : List Operation) (remaining : List Row)
+    → made ≡ map divisorOperation (end .divisors) → all ≡ made ++ chains (k + length made) remaining → remaining ≡ end .remainingRows → all ≡ operationsOf k end
 unfolding operationsOf
-operations-of k end made all ds remaining m a d r = a ∙ rw (m, d, r, length-map (end .divisors) divisorOperation)
+operations-of k end made all remaining m a r = a ∙ rw (m, r, length-map (end .divisors) divisorOperation)
 
 pub outputs-of : (k : ℕ) (end : Eliminated) (next : ℕ) (all : List Output) (remaining : List Row)
     → all ≡ rowOutputs next remaining → next ≡ k + length (end .divisors) → remaining ≡ end .remainingRows → all ≡ outputsOf k end

@@ -1,27 +1,18 @@
--- The lists by value as document 01's lists: divisors, operations, outputs.
+-- The lists by value as document 01's lists: operations, outputs.
 -- Assumes nothing.
-use mathlib.Core.Bool.{false}
 use mathlib.Core.List.{List}
 use lib.ListN.{take}
-use Rattle.elimination.specs.declared.Divisor.{Divisor}
 use Rattle.layout.specs.declared.Operation.{Operation}
 use Rattle.layout.specs.declared.Output.{Output}
-use Rattle.compiler.specs.declared.divisors.Divisors.{Divisors}
 use Rattle.compiler.specs.declared.operations.Operations.{Operations}
 use Rattle.compiler.specs.declared.outputs.Outputs.{Outputs}
 
 -- what stands past a list's end
-abbrev pub noDivisor : Divisor
-noDivisor = record { a = 0; b = 0; ea = 0; eb = 0; minus = false }
-
 abbrev pub noOperation : Operation
 noOperation = record { sign = 0; a = 0; sa = 0; b = 0; sb = 0; width = 0 }
 
 abbrev pub noOutput : Output
 noOutput = record { sign = 0; symbol = 0; shift = 0; width = 0 }
-
-unfoldable pub divisorsList : Divisors → List Divisor
-divisorsList ds = take (ds .count) (ds .list)
 
 unfoldable pub operationsList : Operations → List Operation
 operationsList os = take (os .count) (os .list)

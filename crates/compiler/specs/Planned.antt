@@ -2,7 +2,7 @@
 -- Assumes nothing.
 use Prim.Native.Nat.{ℕ}
 use mathlib.Core.Path.{_≡_}
-use mathlib.Core.List.{List}
+use mathlib.Core.List.{List, map}
 use lib.ListN.{length}
 use Rattle.limits.specs.Limits.{positions}
 use Rattle.elimination.specs.Rows.{matrixRows, plainCount}
@@ -11,12 +11,15 @@ use Rattle.eliminate.specs.State.{rowsTerms}
 use Rattle.layout.specs.Matrix.{matrix, columns}
 use Rattle.compiler.specs.declared.eliminated.Eliminated.{Eliminated}
 use Rattle.compiler.specs.declared.planned.Planned.{Planned}
-use Rattle.compiler.specs.Lists.{divisorsList, operationsList, outputsList}
+use Rattle.compiler.specs.Lists.{operationsList, outputsList}
+use Rattle.compilation.specs.Chains.{divisorOperation}
 use Rattle.compilation.specs.Compile.{operationsOf, outputsOf, eliminationOf}
 
--- elimination's end by value, as document 01's
-abbrev pub eliminatedOf : Eliminated → rules.Eliminated
-eliminatedOf e = record { divisors = divisorsList (e .divisors); replacements = e .replacements; remainingRows = rowsTerms (e .rows) }
+-- elimination's end by value: one operation per divisor, the pairs replaced, the remaining rows
+pub record EliminatedOf (e : rules.Eliminated) (r : Eliminated) : Type 0 where
+  pub operations : operationsList (r .operations) ≡ map divisorOperation (e .divisors)
+  pub replacements : r .replacements ≡ e .replacements
+  pub rows : rowsTerms (r .rows) ≡ e .remainingRows
 
 -- what compile writes and counts, widths aside
 pub record PlannedOf (bytes : List ℕ) (p : Planned) : Type 0 where

@@ -1,5 +1,4 @@
 // Document 01, "Netlist and board machine": the operations and outputs of divisors and remaining rows. Rests on `eliminate`.
-use super::divisors::Divisors;
 use super::operations::Operations;
 use super::outputs::Outputs;
 use eliminate::row::Row;
@@ -10,13 +9,13 @@ use layout::Output;
 use term::Term;
 ghost use mathlib.Core.Path.{_≡_};
 ghost use mathlib.Core.Bool.{xor};
-ghost use mathlib.Core.List.{_++_, map};
+ghost use mathlib.Core.List.{_++_};
 ghost use Prim.Native.Nat.{_+_, _≤_, pred};
 ghost use lib.ListN.{length};
 ghost use Rattle.limits.specs.Limits.{maxRows, maxColumns, maxOperations, maxSymbols};
 ghost use Rattle.eliminate.specs.State.{rowTerms, rowsTerms};
 ghost use Rattle.elimination.specs.Rows.{plainCount};
-ghost use Rattle.compiler.specs.Lists.{divisorsList, operationsList, outputsList};
+ghost use Rattle.compiler.specs.Lists.{operationsList, outputsList};
 ghost use Rattle.compilation.specs.Chains.{signField, divisorOperation, chain, chains, rowOutput, rowOutputs};
 
 // 0 add or plus, 1 subtract or minus.
@@ -36,7 +35,8 @@ fn turned_sign(turned: bool, negative: bool) -> u8
     sign_field(negative)
 }
 
-fn divisor_operation(d: Divisor) -> Operation
+// One operation per divisor.
+pub fn divisor_operation(d: Divisor) -> Operation
     ensures { λ r. ⌜ r ≡ divisorOperation d ⌝ }
 {
     let sign = sign_field(d.minus);
@@ -48,19 +48,6 @@ fn divisor_operation(d: Divisor) -> Operation
         sb: d.eb,
         width: 0,
     }
-}
-
-// One operation per divisor.
-pub fn divisor_operations(divisors: Divisors) -> Operations
-    requires { ⌜ length (divisorsList divisors) ≤ maxOperations ⌝ }
-    ensures { λ r. ⌜ operationsList r ≡ map divisorOperation (divisorsList divisors) ⌝ }
-{
-    let count = divisors.count();
-    let mut out = Operations::empty();
-    for i in 0..count {
-        out = out.push(divisor_operation(divisors.divisor(i)));
-    }
-    out
 }
 
 // The sum so far with one term.

@@ -1,50 +1,47 @@
-// Document 01, "Elimination": elimination to its end. Rests on `eliminate`.
-use super::divisors::Divisors;
+// Document 01, "Elimination": elimination to its end. Rests on `eliminate` and `chain`.
+use super::chain::divisor_operation;
+use super::operations::Operations;
+use eliminate::pick;
 use eliminate::rows::Rows;
-use term::Term;
-ghost use mathlib.Core.Path.{_≡_};
+use eliminate::signs;
+use eliminate::step;
 ghost use Prim.Native.Nat.{_≤_};
 ghost use Rattle.limits.specs.Limits.{maxColumns, maxOperations};
 ghost use Rattle.eliminate.specs.State.{rowsTerms, Ready};
 ghost use Rattle.elimination.specs.Rows.{plainCount};
 ghost use Rattle.elimination.specs.Elimination.{smallestFirst, elimination};
-ghost use Rattle.compiler.specs.Planned.{eliminatedOf};
+ghost use Rattle.compiler.specs.Planned.{EliminatedOf};
 
-// The divisors, the number of pairs replaced, and the remaining rows.
+// One operation per divisor, the number of pairs replaced, and the remaining rows.
 pub struct Eliminated {
-    pub divisors: Divisors,
+    pub operations: Operations,
     pub replacements: usize,
     pub rows: Rows,
 }
 
-// Steps until one replaces nothing. A divisor beyond the highest symbol would be one more than the most, and then nothing is
-// left to replace.
+// Steps until the highest score is below 2. The table of signs serves the pick and the step.
 pub fn eliminate_rows(rows: Rows, n: u16) -> Eliminated
     requires { ⌜ Ready n (rowsTerms rows) × (n ≤ maxColumns) × (plainCount (rowsTerms rows) ≤ maxOperations) ⌝ }
-    ensures { λ r. ⌜ eliminatedOf r ≡ elimination smallestFirst n (rowsTerms rows) ⌝ }
+    ensures { λ r. ⌜ EliminatedOf (elimination smallestFirst n (rowsTerms rows)) r ⌝ }
 {
     let mut left = rows;
     let mut symbol = n;
-    let mut divisors = Divisors::empty();
+    let mut operations = Operations::empty();
     let mut replacements: usize = 0;
-    while symbol <= Term::MAX_SYMBOL {
-        let step = left.step(symbol);
-        if step.replaced == 0 {
+    loop {
+        let signs = signs::sign_table(left);
+        let best = pick::pick(&signs, left);
+        let divisor = best.divisor;
+        if best.score < 2 {
             return Eliminated {
-                divisors,
+                operations,
                 replacements,
                 rows: left,
             };
         }
-        let after = step.rows;
-        divisors = divisors.push(step.divisor);
-        replacements += step.replaced;
-        left = after;
+        operations = operations.push(divisor_operation(divisor));
+        replacements += best.score;
+        left = step::rows_after(&signs, symbol, divisor, left);
         symbol += 1;
-    }
-    Eliminated {
-        divisors,
-        replacements,
-        rows: left,
     }
 }

@@ -1,6 +1,5 @@
 // Document 01, "Netlist and board machine", carried out: compile, from a matrix record to the netlist's bytes, proved equal to the
 // definitions of `compilation`.
-pub mod divisors; // divisors.rt: the divisors, by value
 pub mod operations; // operations.rt: the operations, by value
 pub mod outputs; // outputs.rt: the outputs, by value
 pub mod chain; // chain.rt: the operations and outputs of divisors and rows

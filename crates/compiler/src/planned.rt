@@ -27,10 +27,9 @@ pub fn plan(matrix: &[u8]) -> Planned
     let first = rows::matrix_rows(matrix, m, n);
     let plain = chain::plain_count(first);
     let end = eliminated::eliminate_rows(first, n as u16);
-    let divisors = end.divisors;
+    let made = end.operations;
     let remaining = end.rows;
-    let count = divisors.count();
-    let made = chain::divisor_operations(divisors);
+    let count = made.count();
     let operations = chain::with_chains(made, remaining, n);
     let outputs = chain::row_outputs(remaining, (n + count) as u16);
     Planned {

@@ -1,9 +1,9 @@
 pub mod Filled
 pub mod Members
+pub mod Columns
+pub mod Ready
 pub mod Places
 pub mod SignTable
 pub mod Scoring
 pub mod Picking
 pub mod Stepping
-pub mod Ready
-pub mod Columns

@@ -1,4 +1,5 @@
--- The order among equal scores, the divisor of two terms in row order, and the best of pairs, as the functions work them out.
+-- The order among equal scores, the divisor of two terms in row order, and the best of pairs, as the functions work them out; by the table
+-- of rows it is the pick.
 -- Assumes nothing.
 use Prim.Native.Nat.{ℕ, _+_, _-_, _≤_, _<_, min}
 use mathlib.Core.Path.{_≡_, refl, sym, ap, _∙_}
@@ -8,17 +9,22 @@ use native.Mathlib.Omega.{arith}
 use borrow.Author.Tests.{eq-eqb, ne-eqb, le-ltb}
 use lib.Dec.{ltb}
 use lib.ListN.{length, getD, drop}
+use Rattle.limits.specs.Limits.{positions, termSymbols}
 use Rattle.term.specs.declared.Term.{Term}
 use Rattle.elimination.specs.declared.Divisor.{Divisor}
 use Rattle.elimination.specs.Rows.{Row, Precedes}
 use Rattle.elimination.specs.RowOrder.{differ}
 use Rattle.elimination.specs.Divisors.{Pair, divisorOf, pairsWith, pairsOf}
-use Rattle.elimination.specs.Elimination.{Scored, smaller, before, better, allPairs}
-use Rattle.elimination.specs.Lookup.{Signs, lookupScored, lookupBest}
+use Rattle.elimination.specs.Elimination.{Scored, smaller, before, better, noPairs, allPairs, pick}
+use Rattle.elimination.specs.Lookup.{Proper, Signs, rowsSigns, lookupScored, lookupBest, lookupPick}
 use Rattle.elimination.proofs.Tests.{by-bool}
 use Rattle.elimination.proofs.RowOrder.{divisor-in-order}
+use Rattle.elimination.proofs.LookupPick.{pick-looked-up, pick-proper}
+use Rattle.eliminate.specs.State.{Ready}
+use Rattle.eliminate.specs.Signs.{rowsSignsFrom, signTable}
 use Rattle.eliminate.specs.Pick.{betterOf}
 use Rattle.eliminate.proofs.Members.{left-next, left-none}
+use Rattle.eliminate.proofs.Scoring.{table-rows}
 
 -- ---- the order
 
@@ -110,3 +116,21 @@ module _ (positions : ℕ) (signs : List Signs) where
   pub rows-end : (rows : List Row) (i : ℕ) (s : Scored) → length rows ≤ i → best s (allPairs (drop i rows)) ≡ s
   unfolding allPairs lookupBest
   rows-end rows i s h = ap (λ (l : List Row). best s (allPairs l)) (left-none rows i h)
+
+-- ---- the pick by the table of rows
+
+module _ (rows : List Row) (ready : Ready termSymbols rows) where
+  pub picked : (table : List ℕ) → table ≡ signTable rows
+      → lookupBest positions before (rowsSignsFrom table 0 (length rows)) noPairs (allPairs rows) ≡ pick before rows
+  picked table t =
+      ap (λ (x : List ℕ). lookupBest positions before (rowsSignsFrom x 0 (length rows)) noPairs (allPairs rows)) t
+      ∙ ap (λ (signs : List Signs). lookupBest positions before signs noPairs (allPairs rows)) (table-rows rows ready)
+      ∙ by-look-up
+      ∙ pick-looked-up positions termSymbols before rows (ready .well-formed)
+    where
+      by-look-up : lookupBest positions before (rowsSigns rows) noPairs (allPairs rows) ≡ lookupPick positions before rows
+      by-look-up = unfold lookupPick in refl
+
+  -- a pick that is carried out
+  pub picked-proper : (best : Scored) → best ≡ pick before rows → 2 ≤ best .score → Proper (best .divisor)
+  picked-proper best e h = rw e (pick-proper positions termSymbols before rows (ready .well-formed) (rw e at h))

@@ -1,89 +1,47 @@
--- What a step needs of rows gives what its parts need; the rows of a matrix have it, and the rows after a step have it again. Elimination
--- ends or goes on as the step says.
+-- What the pick and a step need of rows: each row has its part, a higher next symbol keeps it, the rows of a matrix have it, and the rows
+-- after a step have it again.
 -- Assumes nothing.
 use Prim.Native.Nat.{ℕ, suc, _≤_, _<_}
-use mathlib.Core.Path.{_≡_, refl, ap, _∙_}
-use mathlib.Core.List.{List, [], _∷_, _++_, List·Memᴰ}
+use mathlib.Core.Path.{_≡_, refl, ap}
+use mathlib.Core.List.{List, [], _∷_}
 use native.Mathlib.Omega.{arith}
-use native.Mathlib.Nat.{zero-add}
-use lib.Dec.{ltb}
 use lib.IntN.{ℤ}
 use lib.ListN.{length, getD}
-use borrow.Author.Tests.{ltb-false}
-use Rattle.limits.specs.Limits.{maxRows, maxColumns, positions, maxDigits, maxTerms, termSymbols}
+use Rattle.limits.specs.Limits.{maxRows, maxColumns, positions, maxDigits, maxTerms}
 use Rattle.elimination.specs.declared.Divisor.{Divisor}
-use Rattle.elimination.specs.Rows.{Row, Ascending, WellFormed, EachRow, rowFrom, matrixRows, plainCount}
-use Rattle.elimination.specs.Elimination.{Scored, before, noPairs, allPairs, pick, rowAfter, rowsAfter, smallestFirst, eliminate, stepThen}
-use Rattle.elimination.specs.Lookup.{Proper, Signs, signAt, rowsSigns, lookupBest, lookupPick, lookupRowAfter}
+use Rattle.elimination.specs.Rows.{Row, WellFormed, EachRow, rowFrom, matrixRows, plainCount}
+use Rattle.elimination.specs.Elimination.{rowsAfter}
 use Rattle.elimination.proofs.Order.{each-row, rows-well-formed-after, Columns, matrix-well-formed}
 use Rattle.elimination.proofs.Counts.{matrix-plain}
-use Rattle.elimination.proofs.Tests.{by-bool}
 use Rattle.elimination.proofs.Replaced.{length-after}
-use Rattle.elimination.proofs.LookupAfter.{row-after-looked-up}
-use Rattle.elimination.proofs.LookupPick.{pick-looked-up, pick-proper}
 use Rattle.eliminate.specs.State.{Ready}
-use Rattle.eliminate.specs.Signs.{TermsWithin, Placed, tableSigns, rowsSignsFrom, signTable}
-use Rattle.eliminate.specs.Step.{StepAnswer, stepAnswer, rowAfterBy}
 use Rattle.eliminate.proofs.Members.{member-at}
-use Rattle.eliminate.proofs.SignTable.{table-signs}
-use Rattle.eliminate.proofs.Scoring.{rows-signs}
 
-by-own-signs : (positions symbol : ℕ) (d : Divisor) (r : Row) → rowAfterBy positions symbol d (signAt r) r ≡ lookupRowAfter positions symbol d r
-unfolding rowAfterBy lookupRowAfter
-by-own-signs positions symbol d r = refl
+-- ---- a row of them
 
-module _ (symbol : ℕ) (rows : List Row) (ready : Ready symbol rows) where
-  ascending : (r : Row) → List·Memᴰ r rows → Ascending r
-  ascending r m = each-row (WellFormed positions symbol) rows (ready .well-formed) r m .ascending
+module _ (symbol : ℕ) (rows : List Row) (ready : Ready symbol rows) (i : ℕ) (h : i < length rows) where
+  pub row-well-formed : WellFormed positions symbol (getD rows i [])
+  row-well-formed = each-row (WellFormed positions symbol) rows (ready .well-formed) (getD rows i []) (member-at rows i [] h)
 
-  module _ (limit : symbol < termSymbols) where
-    within : (r : Row) → List·Memᴰ r rows → TermsWithin r
-    within r m t k =
-        let w = each-row (WellFormed positions symbol) rows (ready .well-formed) r m in
-        (omega (arith, w .symbols t k), w .exponents t k)
+  pub row-short : length (getD rows i []) ≤ maxTerms
+  row-short = each-row (λ r. length r ≤ maxTerms) rows (ready .short) (getD rows i []) (member-at rows i [] h)
 
-    pub placed : Placed rows
-    placed r m = (ascending r m, within r m)
+-- ---- a higher next symbol
 
-    table-row : (i : ℕ) → i < length rows → tableSigns (signTable rows) i ≡ signAt (getD rows i [])
-    table-row i h = table-signs rows placed (ready .few) i h
+well-formed-below : (symbol higher : ℕ) → symbol ≤ higher → (rows : List Row) → EachRow (WellFormed positions symbol) rows → EachRow (WellFormed positions higher) rows
+well-formed-below symbol higher h [] w = tt
+well-formed-below symbol higher h (r ∷ rows) w = (
+  record {
+    ascending = w .0 .ascending;
+    none-twice = w .0 .none-twice;
+    exponents = w .0 .exponents;
+    symbols = λ t m. omega (arith, w .0 .symbols t m);
+  },
+  well-formed-below symbol higher h rows (w .1),
+)
 
-    -- the pick
-    table-rows : rowsSignsFrom (signTable rows) 0 (length rows) ≡ rowsSigns rows
-    table-rows = rows-signs (signTable rows) 0 rows (λ i h. ap (tableSigns (signTable rows)) (zero-add i) ∙ table-row i h)
-
-    pub picked : (table : List ℕ) → table ≡ signTable rows → (best : Scored)
-        → best ≡ lookupBest positions before (rowsSignsFrom table 0 (length rows)) noPairs (allPairs rows) → best ≡ pick before rows
-    picked table t best e =
-        e
-        ∙ ap (λ (x : List ℕ). lookupBest positions before (rowsSignsFrom x 0 (length rows)) noPairs (allPairs rows)) t
-        ∙ ap (λ (signs : List Signs). lookupBest positions before signs noPairs (allPairs rows)) table-rows
-        ∙ by-look-up
-        ∙ pick-looked-up positions symbol before rows (ready .well-formed)
-      where
-        by-look-up : lookupBest positions before (rowsSigns rows) noPairs (allPairs rows) ≡ lookupPick positions before rows
-        by-look-up = unfold lookupPick in refl
-
-    pub picked-proper : (best : Scored) → best ≡ pick before rows → 2 ≤ best .score → Proper (best .divisor)
-    picked-proper best e h =
-        rw e (pick-proper positions symbol before rows (ready .well-formed) (rw e at h))
-
-    -- the row after a step
-    module _ (i : ℕ) (h : i < length rows) where
-      pub row-within : TermsWithin (getD rows i [])
-      row-within = within (getD rows i []) (member-at rows i [] h)
-
-      pub row-short : length (getD rows i []) ≤ maxTerms
-      row-short = each-row (λ r. length r ≤ maxTerms) rows (ready .short) (getD rows i []) (member-at rows i [] h)
-
-      pub row-after-is : (d : Divisor) → Proper d → rowAfterBy positions symbol d (tableSigns (signTable rows) i) (getD rows i []) ≡ rowAfter symbol d (getD rows i [])
-      row-after-is d proper =
-          let r : Row = getD rows i [] in
-          let w = each-row (WellFormed positions symbol) rows (ready .well-formed) r (member-at rows i [] h) in
-          rw (table-row i h) (by-own-signs positions symbol d r ∙ row-after-looked-up positions symbol d proper r (w .ascending) (w .exponents))
-
-      pub row-after-short : (d : Divisor) → length (rowAfter symbol d (getD rows i [])) ≤ maxTerms
-      row-after-short d = omega (arith, length-after symbol d (getD rows i []) .0, row-short)
+pub ready-below : (symbol higher : ℕ) → symbol ≤ higher → (rows : List Row) → Ready symbol rows → Ready higher rows
+ready-below symbol higher h rows ready = record { few = ready .few; short = ready .short; well-formed = well-formed-below symbol higher h rows (ready .well-formed) }
 
 -- ---- the rows after a step
 
@@ -125,28 +83,3 @@ ready-matrix n m c hn hm = record {
   short = matrix-short n m c hn;
   well-formed = matrix-well-formed positions n m c;
 }
-
--- ---- elimination, step by step
-
-module _ (fuel symbol : ℕ) (made : List Divisor) (rows : List Row) where
-  abbrev answer : StepAnswer
-  answer = stepAnswer symbol rows
-
-  pub step-ends : answer .replaced ≡ 0 → (answer .rows ≡ rows) × (eliminate smallestFirst (suc fuel) symbol made rows ≡ record { divisors = []; replacements = 0; remainingRows = rows })
-  unfolding stepAnswer eliminate
-  step-ends h =
-      by-bool (ltb (pick before rows .score) 2)
-      (λ y. (rw (y, stepAnswer), rw (y, eliminate)))
-      (λ n.
-      let l : 2 ≤ pick before rows .score = ltb-false (pick before rows .score) 2 n in
-      let z : pick before rows .score ≡ 0 = rw (n, stepAnswer) at h in
-      absurd (omega arith))
-
-  pub step-goes-on : (answer .replaced ≡ 0 → ⊥)
-      → eliminate smallestFirst (suc fuel) symbol made rows
-      ≡ stepThen (record { divisor = answer .divisor; score = answer .replaced }) (eliminate smallestFirst fuel (suc symbol) (made ++ (answer .divisor ∷ [])) (answer .rows))
-  unfolding stepAnswer eliminate
-  step-goes-on h =
-      by-bool (ltb (pick before rows .score) 2)
-      (λ y. absurd (h (rw (y, stepAnswer))))
-      (λ n. rw (n, eliminate, stepAnswer))

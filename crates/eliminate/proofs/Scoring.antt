@@ -5,19 +5,20 @@ use mathlib.Core.Path.{_≡_, refl, sym, ap, ap₂, _∙_}
 use mathlib.Core.Bool.{Bool, true, false, not, _&&_}
 use mathlib.Core.List.{List, [], _∷_, _++_, append-assoc}
 use native.Mathlib.Omega.{arith}
-use native.Mathlib.Nat.{add-zero}
+use native.Mathlib.Nat.{add-zero, zero-add}
 use native.Mathlib.Numerals.{add-one}
 use borrow.Author.Tests.{eq-eqb, ne-eqb, le-leb, lt-leb}
 use lib.Dec.{eqb, leb}
 use lib.ListN.{length, getD, set, replicate, length-append}
 use lib.Seq.{set-at}
-use Rattle.limits.specs.Limits.{positions}
+use Rattle.limits.specs.Limits.{positions, termSymbols}
 use Rattle.elimination.specs.declared.Divisor.{Divisor}
 use Rattle.elimination.specs.Lookup.{Signs, occursWith, occursAt, overlapsTaken, takenFlags, countTrue, lookupScore, signAt, rowsSigns}
 use Rattle.elimination.specs.Rows.{Row}
 use Rattle.elimination.proofs.LookupFlags.{padded-flag, padded-count, flags-to-limit}
-use Rattle.eliminate.specs.Signs.{tableSigns, rowsSignsFrom}
-use Rattle.eliminate.proofs.SignTable.{look-out}
+use Rattle.eliminate.specs.State.{Ready}
+use Rattle.eliminate.specs.Signs.{tableSigns, rowsSignsFrom, signTable}
+use Rattle.eliminate.proofs.SignTable.{look-out, table-signs}
 
 -- ---- the occurrence with a co-divisor: both signs were looked up
 
@@ -151,7 +152,7 @@ pub score-start : (table : List ℕ) (d : Divisor) (n m : ℕ)
     → lookupScore n (rowsSignsFrom table 0 (m - 0)) d ≡ lookupScore n (rowsSignsFrom table 0 m) d
 score-start table d n m = let e : m - 0 ≡ m = omega arith in rw e
 
-pub rows-signs : (table : List ℕ) (k : ℕ) (rows : List Row) → ((i : ℕ) → i < length rows → tableSigns table (k + i) ≡ signAt (getD rows i []))
+rows-signs : (table : List ℕ) (k : ℕ) (rows : List Row) → ((i : ℕ) → i < length rows → tableSigns table (k + i) ≡ signAt (getD rows i []))
     → rowsSignsFrom table k (length rows) ≡ rowsSigns rows
 unfolding rowsSignsFrom
 rows-signs table k [] h = refl
@@ -159,3 +160,7 @@ rows-signs table k (r ∷ rs) h =
     ap₂ (λ (x : Signs) (xs : List Signs). x ∷ xs)
     (ap (tableSigns table) (sym (add-zero k)) ∙ h 0 (omega arith))
     (rows-signs table (suc k) rs (λ i l. ap (tableSigns table) (omega arith) ∙ h (suc i) (omega arith)))
+
+-- the table of rows has the signs of each
+pub table-rows : (rows : List Row) → Ready termSymbols rows → rowsSignsFrom (signTable rows) 0 (length rows) ≡ rowsSigns rows
+table-rows rows ready = rows-signs (signTable rows) 0 rows (λ i h. ap (tableSigns (signTable rows)) (zero-add i) ∙ table-signs rows ready i h)

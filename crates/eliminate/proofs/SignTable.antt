@@ -13,12 +13,14 @@ use lib.ListN.{length, getD, set, drop, replicate, length-set, length-replicate,
 use lib.Seq.{getD-set-same, getD-set-other}
 use Rattle.limits.specs.Limits.{maxRows, positions, termSymbols}
 use Rattle.term.specs.declared.Term.{Term}
-use Rattle.elimination.specs.Rows.{Row, Precedes, Ascending}
+use Rattle.elimination.specs.Rows.{Row, Precedes, Ascending, WellFormed, EachRow}
 use Rattle.elimination.specs.Lookup.{signAt, signNumber}
 use Rattle.elimination.proofs.Tests.{by-bool, and-left, and-right, and-both, clash}
 use Rattle.lookup.proofs.Looking.{stands, stands-yes, stands-no, sign-here, sign-later}
-use Rattle.eliminate.specs.Signs.{blankSigns, TermsWithin, Placed, tableSize, place, tableSigns, enteredTerms, enteredRows, signTable}
-use Rattle.eliminate.proofs.Members.{member-at, left-next, left-none}
+use Rattle.eliminate.specs.Signs.{blankSigns, TermsWithin, tableSize, place, tableSigns, enteredTerms, enteredRows, signTable}
+use Rattle.eliminate.specs.State.{Ready}
+use Rattle.eliminate.proofs.Members.{left-next, left-none}
+use Rattle.eliminate.proofs.Ready.{row-well-formed}
 use Rattle.eliminate.proofs.Places.{place-below, place-same}
 
 -- ---- a row's sign of a symbol and an exponent
@@ -33,6 +35,9 @@ alone t u s e (inl p) x y = omega arith
 alone t u s e (inr p) x y = omega arith
 
 -- ---- a symbol or exponent that has no place has no term
+
+pub terms-within : (r : Row) → WellFormed positions termSymbols r → TermsWithin r
+terms-within r w t m = (w .symbols t m, w .exponents t m)
 
 within-tail : (t : Term) (r : Row) → TermsWithin (t ∷ r) → TermsWithin r
 within-tail t r w u m = w u (List·Memᴰ·tail m)
@@ -103,28 +108,27 @@ entered-own i s e hs he table (t ∷ r) a w l z =
 -- ---- entering rows
 
 module _ (s e : ℕ) (hs : s < termSymbols) (he : e < positions) where
-  rows-before : (i k : ℕ) → k < i → (table : List ℕ) (rows : List Row) → Placed rows
+  rows-before : (i k : ℕ) → k < i → (table : List ℕ) (rows : List Row) → EachRow (WellFormed positions termSymbols) rows
       → getD (enteredRows i table rows) (place k s e) 0 ≡ getD table (place k s e) 0
   unfolding enteredRows
   rows-before i k h table [] f = refl
   rows-before i k h table (r ∷ rs) f =
-      rows-before (suc i) k (omega arith) (enteredTerms i table r) rs (λ q m. f q (List·Memᴰ·tail m))
-      ∙ untouched i k s e hs he table r (f r (List·Memᴰ·head refl) .1) (λ t m q. absurd (omega arith))
+      rows-before (suc i) k (omega arith) (enteredTerms i table r) rs (f .1)
+      ∙ untouched i k s e hs he table r (terms-within r (f .0)) (λ t m q. absurd (omega arith))
 
-  rows-at : (i j k : ℕ) (table : List ℕ) (rows : List Row) → k ≡ i + j → j < length rows → Placed rows
+  rows-at : (i j k : ℕ) (table : List ℕ) (rows : List Row) → k ≡ i + j → j < length rows → EachRow (WellFormed positions termSymbols) rows
       → k < maxRows → length table ≡ tableSize → getD table (place k s e) 0 ≡ 0
       → getD (enteredRows i table rows) (place k s e) 0 ≡ signAt (getD rows j []) s e
   unfolding enteredRows
   rows-at i j k table [] q h f b l z = absurd (omega arith)
   rows-at i zero k table (r ∷ rs) q h f b l z =
       let p : k ≡ i = omega arith in
-      let fit = f r (List·Memᴰ·head refl) in
-      rows-before (suc i) k (omega arith) (enteredTerms i table r) rs (λ u m. f u (List·Memᴰ·tail m))
-      ∙ rw (← p) (entered-own k s e hs he table r (fit .0) (fit .1) (omega (arith, place-below k s e b hs he)) z)
+      rows-before (suc i) k (omega arith) (enteredTerms i table r) rs (f .1)
+      ∙ rw (← p) (entered-own k s e hs he table r (f .0 .ascending) (terms-within r (f .0)) (omega (arith, place-below k s e b hs he)) z)
   rows-at i (suc j) k table (r ∷ rs) q h f b l z =
-      rows-at (suc i) j k (enteredTerms i table r) rs (omega arith) (omega arith) (λ u m. f u (List·Memᴰ·tail m)) b
+      rows-at (suc i) j k (enteredTerms i table r) rs (omega arith) (omega arith) (f .1) b
       (entered-length i table r ∙ l)
-      (untouched i k s e hs he table r (f r (List·Memᴰ·head refl) .1) (λ t m p. absurd (omega arith)) ∙ z)
+      (untouched i k s e hs he table r (terms-within r (f .0)) (λ t m p. absurd (omega arith)) ∙ z)
 
 pub entered-rows-start : (rows : List Row) → enteredRows 0 (blankSigns tableSize) rows ≡ signTable rows
 unfolding signTable
@@ -164,10 +168,11 @@ look-out table i s e h =
     (λ y. absurd (h (ltb-true s termSymbols (and-left (ltb s termSymbols) (ltb e positions) y)) (ltb-true e positions (and-right (ltb s termSymbols) (ltb e positions) y))))
     (λ n. rw (n, tableSigns))
 
-pub table-signs : (rows : List Row) → Placed rows → length rows ≤ maxRows → (i : ℕ) → i < length rows
+pub table-signs : (rows : List Row) → Ready termSymbols rows → (i : ℕ) → i < length rows
     → tableSigns (signTable rows) i ≡ signAt (getD rows i [])
 unfolding signTable
-table-signs rows f l i h =
+table-signs rows ready i h =
+    let few = ready .few in
     let blank = blankSigns tableSize in
     let table = enteredRows 0 blank rows in
     fun-ext λ s. fun-ext λ e.
@@ -176,7 +181,7 @@ table-signs rows f l i h =
     let hs = ltb-true s termSymbols (and-left (ltb s termSymbols) (ltb e positions) y) in
     let he = ltb-true e positions (and-right (ltb s termSymbols) (ltb e positions) y) in
     look-in table i s e hs he
-    ∙ rows-at s e hs he 0 i i blank rows (omega arith) h f (omega arith) (blank-length tableSize) (blank-at tableSize (place i s e)))
+    ∙ rows-at s e hs he 0 i i blank rows (omega arith) h (ready .well-formed) (omega arith) (blank-length tableSize) (blank-at tableSize (place i s e)))
     (λ n.
     let out : s < termSymbols → e < positions → ⊥ = λ a b. clash (and-both (ltb s termSymbols) (ltb e positions) (lt-ltb s termSymbols a) (lt-ltb e positions b)) n in
-    look-out table i s e out ∙ sym (no-sign (getD rows i []) s e (f (getD rows i []) (member-at rows i [] h) .1) out))
+    look-out table i s e out ∙ sym (no-sign (getD rows i []) s e (terms-within (getD rows i []) (row-well-formed termSymbols rows ready i h)) out))

@@ -1,4 +1,4 @@
--- The terms that a step keeps and those that it makes, as the loops work them out.
+-- The terms that a step keeps and those that it makes, as the loops work them out, and the rows after it.
 -- Assumes nothing.
 use Prim.Native.Nat.{ℕ, _+_, _-_, _≤_, _<_}
 use mathlib.Core.Path.{_≡_, sym, ap, _∙_}
@@ -6,15 +6,17 @@ use mathlib.Core.Bool.{Bool, true, false, _||_}
 use mathlib.Core.List.{List, [], _∷_, _++_, append-nil}
 use native.Mathlib.Omega.{arith}
 use native.Mathlib.Numerals.{add-one}
-use borrow.Author.Tests.{eq-eqb, ne-eqb, le-leb, lt-leb, lt-ltb, le-ltb}
+use borrow.Author.Tests.{eq-eqb, ne-eqb, le-leb, lt-leb}
 use lib.ListN.{length, getD, drop, length-append}
 use lib.Seq.{append-snoc}
+use Rattle.limits.specs.Limits.{positions}
 use Rattle.term.specs.declared.Term.{Term}
 use Rattle.elimination.specs.declared.Divisor.{Divisor}
-use Rattle.elimination.specs.Rows.{Row}
-use Rattle.elimination.specs.Lookup.{Signs, signAt, takenFlags, partAs, partOfTaken, keptTerms, lookupTerm, lookupTermsFrom}
-use Rattle.elimination.specs.Elimination.{Scored, before, pick, rowAfter, rowsAfter}
-use Rattle.eliminate.specs.Step.{StepAnswer, stepAnswer, rowAfterBy}
+use Rattle.elimination.specs.Rows.{Row, WellFormed}
+use Rattle.elimination.specs.Lookup.{Proper, Signs, signAt, takenFlags, partAs, partOfTaken, keptTerms, lookupTerm, lookupTermsFrom, lookupRowAfter}
+use Rattle.elimination.specs.Elimination.{rowAfter, rowsAfter}
+use Rattle.elimination.proofs.Replaced.{length-after}
+use Rattle.elimination.proofs.LookupAfter.{row-after-looked-up}
 use Rattle.eliminate.proofs.Members.{left-next, left-none}
 
 -- ---- whether a term is part of a taken occurrence
@@ -81,11 +83,16 @@ pub room-for : (done : Row) (t : Term) (rest whole : Row) (most : ℕ) → (done
 room-for done t rest whole most e h =
     omega (arith, ap (length {A = Term}) e, length-append (done ++ (t ∷ [])) rest, length-append done (t ∷ []))
 
--- the terms kept, and behind them the terms made
-pub row-after-parts : (positions symbol : ℕ) (d : Divisor) (signs : Signs) (r : Row) (flags : List Bool) (kept : Row)
-    → flags ≡ takenFlags signs d positions → kept ≡ keptTerms d flags r → kept ++ lookupTermsFrom symbol (signAt r) d 0 flags ≡ rowAfterBy positions symbol d signs r
-unfolding rowAfterBy
-row-after-parts positions symbol d signs r flags kept f k = rw (k, f)
+-- ---- the row after a step: the terms kept, and behind them the terms made
+
+module _ (symbol : ℕ) (d : Divisor) (proper : Proper d) (r : Row) (w : WellFormed positions symbol r) where
+  pub row-after-parts : (flags : List Bool) (kept : Row) → flags ≡ takenFlags (signAt r) d positions → kept ≡ keptTerms d flags r
+      → kept ++ lookupTermsFrom symbol (signAt r) d 0 flags ≡ rowAfter symbol d r
+  unfolding lookupRowAfter
+  row-after-parts flags kept f k = rw (k, f) (row-after-looked-up positions symbol d proper r (w .ascending) (w .exponents))
+
+pub row-after-short : (symbol : ℕ) (d : Divisor) (r : Row) (most : ℕ) → length r ≤ most → length (rowAfter symbol d r) ≤ most
+row-after-short symbol d r most h = omega (arith, length-after symbol d r .0)
 
 -- ---- the rows after a step
 
@@ -100,15 +107,3 @@ module _ (symbol : ℕ) (d : Divisor) (rows : List Row) (i : ℕ) (done : List R
   pub rows-after-end : length rows ≤ i → done ++ rowsAfter symbol d (drop i rows) ≡ done
   unfolding rowsAfter
   rows-after-end h = ap (λ (l : List Row). done ++ rowsAfter symbol d l) (left-none rows i h) ∙ append-nil done
-
--- ---- the answer, where the pick was found
-
-module _ (symbol : ℕ) (rows : List Row) (best : Scored) (e : best ≡ pick before rows) where
-  pub ended : best .score < 2 → _≡_ {A = StepAnswer} (record { rows = rows; divisor = best .divisor; replaced = 0 }) (stepAnswer symbol rows)
-  unfolding stepAnswer
-  ended h = let l : pick before rows .score < 2 = rw e at h in rw e (rw (lt-ltb (pick before rows .score) 2 l, stepAnswer))
-
-  pub replaces : (after : List Row) → 2 ≤ best .score → after ≡ rowsAfter symbol (best .divisor) rows
-      → _≡_ {A = StepAnswer} (record { rows = after; divisor = best .divisor; replaced = best .score }) (stepAnswer symbol rows)
-  unfolding stepAnswer
-  replaces after h k = let l : 2 ≤ pick before rows .score = rw e at h in rw (k, e) (rw (le-ltb (pick before rows .score) 2 l, stepAnswer))

@@ -1,4 +1,3 @@
 pub mod State
 pub mod Signs
 pub mod Pick
-pub mod Step

@@ -8,7 +8,7 @@ use lib.Dec.{ltb}
 use lib.ListN.{getD, set, replicate}
 use Rattle.limits.specs.Limits.{maxRows, positions, termSymbols}
 use Rattle.term.specs.declared.Term.{Term}
-use Rattle.elimination.specs.Rows.{Row, Ascending}
+use Rattle.elimination.specs.Rows.{Row}
 use Rattle.elimination.specs.Lookup.{Signs, signNumber}
 
 -- a table without signs
@@ -18,10 +18,6 @@ blankSigns size = replicate size 0
 -- every term of a row has a place
 abbrev pub TermsWithin : Row → Type 0
 TermsWithin r = (t : Term) → List·Memᴰ t r → (t .symbol < termSymbols) × (t .exponent < positions)
-
--- and the rows are in order besides
-abbrev pub Placed : List Row → Type 0
-Placed rows = (r : Row) → List·Memᴰ r rows → Ascending r × TermsWithin r
 
 -- a place for each row, symbol and exponent
 abbrev pub tableSize : ℕ

@@ -20,8 +20,8 @@ rowTerms r = take (r .count) (r .terms)
 unfoldable pub rowsTerms : Rows → List (List Term)
 rowsTerms rows = map rowTerms (take (rows .m) (rows .rows))
 
--- what a step needs of rows: their number and the terms of each are within the limits, and each is in order, with exponents below the
--- positions and symbols below the next one
+-- what the pick and a step need of rows: their number and the terms of each are within the limits, and each is in order, with exponents
+-- below the positions and symbols below the next one
 pub record Ready (symbol : ℕ) (rows : List (List Term)) : Type 0 where
   pub few : length rows ≤ maxRows
   pub short : EachRow (λ r. length r ≤ maxTerms) rows

@@ -8,13 +8,13 @@ use term::Term;
 ghost use mathlib.Core.Path.{_≡_};
 ghost use Prim.Native.Nat.{_+_, _<_, _≤_};
 ghost use lib.ListN.{length, drop, getD};
-ghost use Rattle.limits.specs.Limits.{maxRows, positions};
+ghost use Rattle.limits.specs.Limits.{maxRows, positions, termSymbols};
 ghost use Rattle.elimination.specs.Rows.{Precedes, Ascending};
 ghost use Rattle.elimination.specs.Divisors.{divisorOf, pairsWith, pairsOf};
-ghost use Rattle.elimination.specs.Elimination.{before, better, noPairs, allPairs};
+ghost use Rattle.elimination.specs.Elimination.{before, better, noPairs, pick};
 ghost use Rattle.elimination.specs.Lookup.{lookupScored, lookupBest};
-ghost use Rattle.eliminate.specs.State.{noTerm, rowTerms, rowsTerms};
-ghost use Rattle.eliminate.specs.Signs.{Placed, rowsSignsFrom};
+ghost use Rattle.eliminate.specs.State.{noTerm, rowTerms, rowsTerms, Ready};
+ghost use Rattle.eliminate.specs.Signs.{rowsSignsFrom, signTable};
 ghost use Rattle.eliminate.specs.Pick.{scoredOf, betterOf};
 
 // A divisor and its score.
@@ -137,10 +137,10 @@ fn no_pairs() -> Best
     Best { divisor, score: 0 }
 }
 
-// And all pairs of all rows.
-pub fn best_in_rows(signs: &[u8; SIZE], rows: Rows) -> Best
-    requires { ⌜ (length (rowsTerms rows) ≤ maxRows) × Placed (rowsTerms rows) ⌝ }
-    ensures { λ r. ⌜ scoredOf r ≡ lookupBest positions before (rowsSignsFrom (now (signs .entry)) 0 (length (rowsTerms rows))) noPairs (allPairs (rowsTerms rows)) ⌝ }
+// The pick of the rows whose table of signs is lent: the best of all pairs.
+pub fn pick(signs: &[u8; SIZE], rows: Rows) -> Best
+    requires { ⌜ (now signs ≡ signTable (rowsTerms rows)) × Ready termSymbols (rowsTerms rows) ⌝ }
+    ensures { λ r. ⌜ scoredOf r ≡ pick before (rowsTerms rows) ⌝ }
 {
     let m = rows.m();
     let mut best = no_pairs();

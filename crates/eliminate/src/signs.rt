@@ -7,11 +7,10 @@ use limits::TERM_SYMBOLS;
 use lookup::sign_of;
 use term::Term;
 ghost use mathlib.Core.Path.{_≡_};
-ghost use Prim.Native.Nat.{_<_, _≤_};
-ghost use lib.ListN.{length};
+ghost use Prim.Native.Nat.{_<_};
 ghost use Rattle.limits.specs.Limits.{maxRows, positions, termSymbols};
-ghost use Rattle.eliminate.specs.Signs.{TermsWithin, Placed, tableSize, place, blankSigns, tableSigns, enteredTerms, signTable};
-ghost use Rattle.eliminate.specs.State.{rowTerms, rowsTerms};
+ghost use Rattle.eliminate.specs.Signs.{TermsWithin, tableSize, place, blankSigns, tableSigns, enteredTerms, signTable};
+ghost use Rattle.eliminate.specs.State.{rowTerms, rowsTerms, Ready};
 
 // A sign for each row, symbol and exponent.
 pub const SIZE: usize = MAX_ROWS * TERM_SYMBOLS * POSITIONS;
@@ -70,7 +69,7 @@ fn enter_row(signs: &mut [u8; SIZE], i: usize, row: Row)
 
 // The table of all rows.
 pub fn sign_table(rows: Rows) -> [u8; SIZE]
-    requires { ⌜ Placed (rowsTerms rows) × (length (rowsTerms rows) ≤ maxRows) ⌝ }
+    requires { ⌜ Ready termSymbols (rowsTerms rows) ⌝ }
     ensures { λ r. ⌜ r ≡ signTable (rowsTerms rows) ⌝ }
 {
     let mut signs = blank();

@@ -1,9 +1,7 @@
-// Document 01, "Elimination": the step. Rests on `limits` and `pick`.
-use crate::pick;
+// Document 01, "Elimination": the step of a given divisor. Rests on `limits` and `score`.
 use crate::row::Row;
 use crate::rows::Rows;
 use crate::score;
-use crate::signs;
 use crate::signs::SIZE;
 use elimination::Divisor;
 use limits::POSITIONS;
@@ -12,19 +10,12 @@ ghost use mathlib.Core.Path.{_≡_};
 ghost use mathlib.Core.List.{_++_};
 ghost use Prim.Native.Nat.{_<_, _≤_};
 ghost use lib.ListN.{length};
-ghost use Rattle.limits.specs.Limits.{maxRows, positions, maxTerms, termSymbols};
-ghost use Rattle.elimination.specs.Lookup.{partAs, partOfTaken, keptTerms, signAt, lookupTerm, lookupTermsFrom, Proper};
-ghost use Rattle.elimination.specs.Elimination.{rowsAfter};
+ghost use Rattle.limits.specs.Limits.{positions, maxTerms, termSymbols};
+ghost use Rattle.elimination.specs.Rows.{WellFormed};
+ghost use Rattle.elimination.specs.Lookup.{ExponentsBelow, Proper, signAt, takenFlags, partAs, partOfTaken, keptTerms, lookupTerm, lookupTermsFrom};
+ghost use Rattle.elimination.specs.Elimination.{rowAfter, rowsAfter};
 ghost use Rattle.eliminate.specs.State.{rowTerms, rowsTerms, Ready};
-ghost use Rattle.eliminate.specs.Signs.{TermsWithin, tableSigns, signTable};
-ghost use Rattle.eliminate.specs.Step.{rowAfterBy, stepAnswerOf, stepAnswer};
-
-// The rows after a step, its divisor and the number of pairs replaced: 0 where elimination has ended, and the rows are as they were.
-pub struct Stepped {
-    pub rows: Rows,
-    pub divisor: Divisor,
-    pub replaced: usize,
-}
+ghost use Rattle.eliminate.specs.Signs.{signTable};
 
 // A term of the symbol, whose exponent is that of a taken co-divisor above the given one.
 fn part_as(symbol: u16, exponent: u8, flags: [bool; POSITIONS], t: Term) -> bool
@@ -55,7 +46,7 @@ fn part_of_taken(d: Divisor, flags: [bool; POSITIONS], t: Term) -> bool
 
 // The terms that are part of no taken occurrence.
 fn kept(d: Divisor, flags: [bool; POSITIONS], row: Row) -> Row
-    requires { ⌜ TermsWithin (rowTerms row) × (length (rowTerms row) ≤ maxTerms) ⌝ }
+    requires { ⌜ ExponentsBelow positions (rowTerms row) × (length (rowTerms row) ≤ maxTerms) ⌝ }
     ensures { λ r. ⌜ rowTerms r ≡ keptTerms d flags (rowTerms row) ⌝ }
 {
     let count = row.count();
@@ -97,19 +88,18 @@ fn with_new_terms(row: Row, symbol: u16, d: Divisor, flags: [bool; POSITIONS], r
     out
 }
 
-// The new symbol is the largest, so the new terms stand last.
-fn row_after(signs: &[u8; SIZE], i: usize, symbol: u16, d: Divisor, row: Row) -> Row
-    requires { ⌜ (i < maxRows) × (symbol < termSymbols) × TermsWithin (rowTerms row) × (length (rowTerms row) ≤ maxTerms) × (length (rowAfterBy positions symbol d (tableSigns (now signs) i) (rowTerms row)) ≤ maxTerms) ⌝ }
-    ensures { λ r. ⌜ rowTerms r ≡ rowAfterBy positions symbol d (tableSigns (now (signs .entry)) i) (rowTerms row) ⌝ }
+// A row after the step of a divisor that gets the symbol, where it is known which occurrences are taken. The new symbol is the largest,
+// so the new terms stand last.
+pub fn row_after(symbol: u16, d: Divisor, flags: [bool; POSITIONS], row: Row) -> Row
+    requires { ⌜ (symbol < termSymbols) × Proper d × WellFormed positions symbol (rowTerms row) × (length (rowTerms row) ≤ maxTerms) × (flags ≡ takenFlags (signAt (rowTerms row)) d positions) ⌝ }
+    ensures { λ r. ⌜ rowTerms r ≡ rowAfter symbol d (rowTerms row) ⌝ }
 {
-    let taken = score::taken_in_row(signs, i, d);
-    let flags = taken.flags;
     let rest = kept(d, flags, row);
     with_new_terms(row, symbol, d, flags, rest)
 }
 
-// The rows go into a fresh rows state, one by one.
-fn rows_after(signs: &[u8; SIZE], symbol: u16, d: Divisor, rows: Rows) -> Rows
+// All rows after it, by their table of signs. They go into a fresh rows state, one by one.
+pub fn rows_after(signs: &[u8; SIZE], symbol: u16, d: Divisor, rows: Rows) -> Rows
     requires { ⌜ (now signs ≡ signTable (rowsTerms rows)) × Ready symbol (rowsTerms rows) × (symbol < termSymbols) × Proper d ⌝ }
     ensures { λ r. ⌜ rowsTerms r ≡ rowsAfter symbol d (rowsTerms rows) ⌝ }
 {
@@ -117,35 +107,12 @@ fn rows_after(signs: &[u8; SIZE], symbol: u16, d: Divisor, rows: Rows) -> Rows
     let mut out = Rows::empty();
     let mut i = 0;
     while i < m {
-        let row = row_after(signs, i, symbol, d, rows.row(i));
-        out = out.with_row(row);
+        let row = rows.row(i);
+        let taken = score::taken_in_row(signs, i, d);
+        let flags = taken.flags;
+        let after = row_after(symbol, d, flags, row);
+        out = out.with_row(after);
         i += 1;
     }
     out
-}
-
-impl Rows {
-    // One step, whose divisor gets the given symbol.
-    pub fn step(self, symbol: u16) -> Stepped
-        requires { ⌜ Ready symbol (rowsTerms self) × (symbol < termSymbols) ⌝ }
-        ensures { λ r. ⌜ stepAnswerOf r ≡ stepAnswer symbol (rowsTerms self) ⌝ }
-    {
-        let signs = signs::sign_table(self);
-        let best = pick::best_in_rows(&signs, self);
-        let divisor = best.divisor;
-        let replaced = best.score;
-        if replaced < 2 {
-            return Stepped {
-                rows: self,
-                divisor,
-                replaced: 0,
-            };
-        }
-        let rows = rows_after(&signs, symbol, divisor, self);
-        Stepped {
-            rows,
-            divisor,
-            replaced,
-        }
-    }
 }

@@ -1,29 +1,29 @@
 -- `compiler::eliminated::eliminate_rows` meets its contract. Assumes nothing.
 use borrow.Author.Needs.{needs}
 use native.Mathlib.Omega.{arith}
-use Prim.Native.Nat.{_+_, _*_, _≤_}
-use mathlib.Core.Path.{_≡_, _∙_}
-use mathlib.Core.List.{[], _∷_}
+use Prim.Native.Nat.{_+_, _≤_, _<_}
+use mathlib.Core.Path.{_≡_, ap, _∙_}
+use mathlib.Core.List.{[], _∷_, _++_, map}
 use native.Mathlib.Numerals.{add-one}
-use lib.ListN.{length, length-append}
-use Rattle.limits.specs.Limits.{maxOperations}
+use Rattle.limits.specs.Limits.{termSymbols}
+use Rattle.layout.specs.declared.Operation.{Operation}
 use Rattle.elimination.specs.Rows.{plainCount}
-use Rattle.elimination.specs.Elimination.{smallestFirst, elimination}
-use Rattle.eliminate.specs.State.{rowsTerms, Ready}
-use Rattle.eliminate.specs.Step.{stepAnswerOf}
-use Rattle.compiler.specs.Lists.{divisorsList}
-use Rattle.compiler.proofs.EndLaws.{restOf, withRest, rest-start, rest-none, rest-stops, Moved, rest-moves}
+use Rattle.elimination.specs.Elimination.{Scored, rowsAfter, Eliminated}
+use Rattle.eliminate.specs.State.{rowsTerms}
+use Rattle.eliminate.specs.Pick.{scoredOf}
+use Rattle.eliminate.proofs.Picking.{picked-proper}
+use Rattle.compilation.specs.Chains.{divisorOperation}
+use Rattle.compiler.specs.Lists.{operationsList}
+use Rattle.compiler.proofs.EndLaws.{BeforeStep, before-first, length-made, within-table, ended-is, plain-less, next-within, before-next}
 use Rattle.compiler.proofs.eliminated.eliminate_rows.Statement.{statement}
 use Rattle.compiler.proofs.eliminated.eliminate_rows.Tie as tie
 
 abbrev Inv-loop : tie.InvT-loop
-Inv-loop n left₀ symbol₀ divisors₀ replacements₀ left symbol divisors replacements =
-    Ready symbol (rowsTerms left) × (symbol ≡ n + length (divisorsList divisors)) × (2 * length (divisorsList divisors) + plainCount (rowsTerms left) ≤ maxOperations)
-    × (replacements + plainCount (rowsTerms left) ≤ maxOperations)
-    × (withRest (divisorsList divisors) replacements (restOf symbol (divisorsList divisors) (rowsTerms left)) ≡ elimination smallestFirst n (rowsTerms left₀))
+Inv-loop n left₀ symbol₀ operations₀ replacements₀ left symbol operations replacements =
+    BeforeStep n (rowsTerms left₀) symbol (operationsList operations) replacements (rowsTerms left)
 
 abbrev μ-loop : tie.MeasureT-loop
-μ-loop n left₀ symbol₀ divisors₀ replacements₀ left symbol divisors replacements = plainCount (rowsTerms left)
+μ-loop n left₀ symbol₀ operations₀ replacements₀ left symbol operations replacements = plainCount (rowsTerms left)
 
 empty-requires : tie.Need-empty-requires Inv-loop μ-loop
 empty-requires c κs = search needs
@@ -31,61 +31,78 @@ empty-requires c κs = search needs
 loop-holds : tie.Need-loop-holds Inv-loop μ-loop
 loop-holds c =
     let s = c .before in
-    rw (c .empty .ensures) (s .pre .0, omega arith, omega (arith, s .pre .2), omega (arith, s .pre .2), rest-start (s .args .n) (rowsTerms (s .args .rows)))
+    rw (c .empty .ensures) (before-first (s .args .n) (rowsTerms (s .args .rows)) (s .pre .0) (s .pre .2))
 
-step-requires : tie.Need-step-requires Inv-loop μ-loop
-step-requires c κs = (c .before .loop .inv .0, omega (arith, c .loop-test .taken))
+sign-table-requires : tie.Need-sign-table-requires Inv-loop μ-loop
+sign-table-requires c κs = within-table (c .loop .inv) (c .before .before .pre .1)
+
+pick-requires : tie.Need-pick-requires Inv-loop μ-loop
+pick-requires c κs = let L = c .before .before in (c .before .sign-table .ensures, within-table (L .loop .inv) (L .before .before .pre .1))
 
 returns : tie.Need-returns Inv-loop μ-loop
 returns c =
-    let g = c .before .before in
-    let L = g .before .before in
-    rest-stops (L .loop .symbol) (divisorsList (L .loop .divisors)) (L .loop .replacements) (rowsTerms (L .loop .left)) (stepAnswerOf (g .step .result)) (g .step .ensures) (c .if1 .taken)
-    ∙ L .loop .inv .4
+    let p = c .before .before .before in
+    let b = p .before .before .before .loop .inv in
+    let e = ended-is b (scoredOf (p .pick .result)) (p .pick .ensures) (c .if1 .taken) in
+    record {
+      operations = b .operations-made ∙ ap (λ (x : Eliminated). map divisorOperation (x .divisors)) e;
+      replacements = ap (λ (x : Eliminated). x .replacements) e;
+      rows = ap (λ (x : Eliminated). x .remainingRows) e;
+    }
 
-moved : (c : tie.Else1 Inv-loop μ-loop) → (let g = c .before .before in
-    let L = g .before .before in
-    Moved (L .loop .symbol) (divisorsList (L .loop .divisors)) (L .loop .replacements) (rowsTerms (L .loop .left)) (stepAnswerOf (g .step .result)))
-moved c =
-    let g = c .before .before in
-    let L = g .before .before in
-    rest-moves (L .loop .symbol) (divisorsList (L .loop .divisors)) (L .loop .replacements) (rowsTerms (L .loop .left)) (stepAnswerOf (g .step .result)) (g .step .ensures) (c .if1 .left)
+-- a step is made
+module _ (c : tie.Else1 Inv-loop μ-loop) where
+  abbrev found : tie.After-pick Inv-loop μ-loop
+  found = c .before .before .before
+
+  abbrev at : tie.At-loop Inv-loop μ-loop
+  at = found .before .before .before
+
+  abbrev best : Scored
+  best = scoredOf (found .pick .result)
+
+  two : 2 ≤ best .score
+  two = omega (arith, c .if1 .left)
+
+  less : plainCount (rowsAfter (at .loop .symbol) (best .divisor) (rowsTerms (at .loop .left))) + best .score ≡ plainCount (rowsTerms (at .loop .left))
+  less = plain-less (at .loop .inv) best (found .pick .ensures) two
+
+  symbol-within : at .loop .symbol < termSymbols
+  symbol-within = next-within (at .loop .inv) best (found .pick .ensures) two (at .before .before .pre .1)
+
+divisor-operation-requires : tie.Need-divisor-operation-requires Inv-loop μ-loop
+divisor-operation-requires c κs = search needs
 
 push-requires : tie.Need-push-requires Inv-loop μ-loop
-push-requires c κs = let L = c .before .before .before .before .before in omega (arith, moved (c .before) .two, moved (c .before) .plain, L .loop .inv .2)
+push-requires c κs = let g = c .before in let b = at g .loop .inv in omega (arith, length-made b, b .few, less g, two g)
 
 add-replacements : tie.Need-add-replacements Inv-loop μ-loop
-add-replacements c = let L = c .before .before .before .before .before .before .before in omega (arith, moved (c .before .before .before) .plain, L .loop .inv .3)
+add-replacements c = let g = c .before .before .before in omega (arith, less g, at g .loop .inv .replaced)
+
+rows-after-requires : tie.Need-rows-after-requires Inv-loop μ-loop
+rows-after-requires c κs =
+    let g = c .before .before .before .before in
+    let L = at g in
+    let table = within-table (L .loop .inv) (L .before .before .pre .1) in (
+      found g .before .before .sign-table .ensures,
+      L .loop .inv .ready,
+      symbol-within g,
+      picked-proper (rowsTerms (L .loop .left)) table (best g) (found g .pick .ensures) (two g),
+    )
 
 add-symbol : tie.Need-add-symbol Inv-loop μ-loop
-add-symbol c = omega (arith, c .before .before .before .before .before .before .loop-test .taken)
+add-symbol c = omega (arith, symbol-within (c .before .before .before .before .before))
 
 loop-less : tie.Need-loop-less Inv-loop μ-loop
-loop-less c = let m = moved (c .before .before .before) in omega (arith, m .two, m .plain)
+loop-less c = let g = c .before .before .before .before .before in rw (c .rows-after .ensures) (omega (arith, less g, two g))
 
 loop-again : tie.Need-loop-again Inv-loop μ-loop
 loop-again c =
-    let g = c .before .before .before in
-    let L = g .before .before .before .before in
-    let m = moved g in
-    let made = divisorsList (L .loop .divisors) in
-    let d = g .before .before .step .result .divisor in
-    let l = length-append made (d ∷ []) in
-    rw (c .before .push .ensures, add-one (L .loop .symbol)) (
-      m .ready (L .loop .inv .0),
-      omega (arith, l, L .loop .inv .1),
-      omega (arith, l, m .two, m .plain, L .loop .inv .2),
-      omega (arith, m .plain, L .loop .inv .3),
-      m .rest ∙ L .loop .inv .4,
-    )
-
-returns-2 : tie.Need-returns-2 Inv-loop μ-loop
-returns-2 c =
-    let L = c .before in
-    let s = L .before .before in
-    rest-none (L .loop .symbol) (divisorsList (L .loop .divisors)) (L .loop .replacements) (rowsTerms (L .loop .left))
-    (omega (arith, L .loop .inv .1, L .loop .inv .2, s .pre .1, c .loop-test .left))
-    ∙ L .loop .inv .4
+    let pushed = c .before .before .before in
+    let g = pushed .before .before in
+    let L = at g in
+    let made = pushed .push .ensures ∙ ap (λ (o : Operation). operationsList (L .loop .operations) ++ (o ∷ [])) (pushed .before .divisor-operation .ensures) in
+    rw (add-one (L .loop .symbol), c .rows-after .ensures) (before-next (L .loop .inv) (best g) (found g .pick .ensures) (two g) (operationsList (pushed .push .result)) made)
 
 pub eliminate-rows-spec : {M : Type 1} → statement M
 eliminate-rows-spec =
@@ -95,11 +112,13 @@ eliminate-rows-spec =
     μ-loop
     empty-requires
     loop-holds
-    step-requires
+    sign-table-requires
+    pick-requires
     returns
+    divisor-operation-requires
     push-requires
     add-replacements
+    rows-after-requires
     add-symbol
     loop-less
-    loop-again
-    returns-2)
+    loop-again)

@@ -9,14 +9,13 @@ use Rattle.limits.specs.Limits.{positions, maxOperations}
 use Rattle.layout.specs.Matrix.{matrix, rows, columns}
 use Rattle.layout.proofs.LittleEndian.{AreBytes}
 use Rattle.layout.proofs.MatrixRefusal.{AcceptedMatrix, accepted-matrix}
-use Rattle.elimination.specs.declared.Divisor.{Divisor}
 use Rattle.elimination.specs.Rows.{Row, matrixRows, plainCount}
 use Rattle.elimination.specs.Elimination.{Eliminated, smallestFirst, elimination}
 use Rattle.eliminate.specs.State.{rowsTerms, Ready}
-use Rattle.compiler.specs.Lists.{divisorsList, operationsList}
+use Rattle.compiler.specs.Lists.{operationsList}
 use Rattle.compilation.specs.Chains.{divisorOperation}
 use Rattle.compilation.specs.Compile.{eliminationOf}
-use Rattle.compiler.specs.Planned.{eliminatedOf}
+use Rattle.compiler.specs.Planned.{EliminatedOf}
 use Rattle.compilation.proofs.Compiled.{plain-most}
 use Rattle.compiler.proofs.PlanLaws.{ready, operations-sum, remaining-few, operations-of, outputs-of, elimination-is}
 use Rattle.compiler.proofs.planned.plan.Statement.{statement}
@@ -77,62 +76,54 @@ module _ (c : tie.After-eliminate-rows) where
   abbrev start : tie.After-shared-slice-known
   start = known (c .before .before)
 
-  end-is : eliminatedOf (c .eliminate-rows .result) ≡ eliminationOf (bytes start)
-  end-is = c .eliminate-rows .ensures ∙ ap (elimination smallestFirst (columns (bytes start))) (first-is (c .before .before)) ∙ elimination-is (bytes start)
+  abbrev end : Eliminated
+  end = eliminationOf (bytes start)
 
-  divisors-are : divisorsList (c .eliminate-rows .result .divisors) ≡ eliminationOf (bytes start) .divisors
-  divisors-are = ap (λ (e : Eliminated). e .divisors) end-is
+  end-is : EliminatedOf end (c .eliminate-rows .result)
+  end-is = subst (λ (e : Eliminated). EliminatedOf e (c .eliminate-rows .result))
+      (ap (elimination smallestFirst (columns (bytes start))) (first-is (c .before .before)) ∙ elimination-is (bytes start)) (c .eliminate-rows .ensures)
 
-  rows-are : rowsTerms (c .eliminate-rows .result .rows) ≡ eliminationOf (bytes start) .remainingRows
-  rows-are = ap (λ (e : Eliminated). e .remainingRows) end-is
+  made : length (operationsList (c .eliminate-rows .result .operations)) ≡ length (end .divisors)
+  made = ap length (end-is .operations) ∙ length-map (end .divisors) divisorOperation
 
-  sum : length (divisorsList (c .eliminate-rows .result .divisors)) + plainCount (rowsTerms (c .eliminate-rows .result .rows)) ≤ maxOperations
-  sum = omega (arith, ap (length {A = Divisor}) divisors-are, ap plainCount rows-are, operations-sum (bytes start) (all start) (start .before .pre))
+  sum : length (operationsList (c .eliminate-rows .result .operations)) + plainCount (rowsTerms (c .eliminate-rows .result .rows)) ≤ maxOperations
+  sum = omega (arith, made, ap plainCount (end-is .rows), operations-sum (bytes start) (all start) (start .before .pre))
 
 count-requires : tie.Need-count-requires
 count-requires c κs = search needs
 
-divisor-operations-requires : tie.Need-divisor-operations-requires
-divisor-operations-requires c κs = omega (arith, sum (c .before .before .before))
-
 with-chains-requires : tie.Need-with-chains-requires
-with-chains-requires c κs =
-    let g = c .before .before .before .before in
-    let ds = divisorsList (g .eliminate-rows .result .divisors) in
-    (accepted (start g) .limits .columns-most, omega (arith, sum g, ap length (c .divisor-operations .ensures), length-map ds divisorOperation))
+with-chains-requires c κs = let g = c .before .before .before in (accepted (start g) .limits .columns-most, sum g)
 
 add-row-outputs : tie.Need-add-row-outputs
-add-row-outputs c = let g = c .before .before .before .before .before in omega (arith, sum g, c .before .before .count .ensures, accepted (start g) .limits .columns-most)
+add-row-outputs c = let g = c .before .before .before .before in omega (arith, sum g, c .before .count .ensures, accepted (start g) .limits .columns-most)
 
 cast-row-outputs : tie.Need-cast-row-outputs
-cast-row-outputs c = let g = c .before .before .before .before .before in omega (arith, sum g, c .before .before .count .ensures, accepted (start g) .limits .columns-most)
+cast-row-outputs c = let g = c .before .before .before .before in omega (arith, sum g, c .before .count .ensures, accepted (start g) .limits .columns-most)
 
 row-outputs-requires : tie.Need-row-outputs-requires
 row-outputs-requires c κs =
-    let g = c .before .before .before .before .before in
+    let g = c .before .before .before .before in
     let k = start g in (
-      omega (arith, sum g, c .before .before .count .ensures, accepted k .limits .columns-most),
-      omega (arith, ap (length {A = Row}) (rows-are g), remaining-few (bytes k) (all k) (k .before .pre)),
+      omega (arith, sum g, c .before .count .ensures, accepted k .limits .columns-most),
+      omega (arith, ap (length {A = Row}) (end-is g .rows), remaining-few (bytes k) (all k) (k .before .pre)),
     )
 
 returns : tie.Need-returns
 returns c =
     let w = c .before in
-    let o = w .before in
-    let count = o .before in
+    let count = w .before in
     let g = count .before .before .before in
     let k = start g in
     let n = columns (bytes k) in
-    let e : Eliminated = eliminationOf (bytes k) in
-    let ds = divisorsList (g .eliminate-rows .result .divisors) in
-    let remaining = rowsTerms (g .eliminate-rows .result .rows) in
-    let many : count .count .result ≡ length (e .divisors) = count .count .ensures ∙ ap (length {A = Divisor}) (divisors-are g) in
+    let e = end-is g in
+    let many : count .count .result ≡ length (end g .divisors) = count .count .ensures ∙ made g in
     record {
-      operations = operations-of n e (operationsList (o .divisor-operations .result)) _ ds remaining (o .divisor-operations .ensures) (w .with-chains .ensures) (divisors-are g) (rows-are g);
-      outputs = outputs-of n e _ _ remaining (c .row-outputs .ensures) (ap (λ (x : ℕ). n + x) many) (rows-are g);
+      operations = operations-of n (end g) (operationsList (g .eliminate-rows .result .operations)) _ (rowsTerms (g .eliminate-rows .result .rows)) (e .operations) (w .with-chains .ensures) (e .rows);
+      outputs = outputs-of n (end g) _ _ (rowsTerms (g .eliminate-rows .result .rows)) (c .row-outputs .ensures) (ap (λ (x : ℕ). n + x) many) (e .rows);
       plain = g .before .plain-count .ensures ∙ ap plainCount (first-is (g .before .before));
       divisors = many;
-      replacements = ap (λ (x : Eliminated). x .replacements) (end-is g);
+      replacements = e .replacements;
     }
 
 pub plan-spec : {M : Type 1} → statement M
@@ -148,7 +139,6 @@ plan-spec =
     cast-eliminate-rows
     eliminate-rows-requires
     count-requires
-    divisor-operations-requires
     with-chains-requires
     add-row-outputs
     cast-row-outputs

@@ -5,10 +5,11 @@ use mathlib.Core.List.{[]}
 use native.Mathlib.Omega.{arith}
 use borrow.Author.Needs.{needs}
 use lib.ListN.{drop, getD}
+use Rattle.limits.specs.Limits.{termSymbols}
 use Rattle.eliminate.specs.State.{rowsTerms}
 use Rattle.eliminate.specs.Signs.{enteredRows, signTable}
-use Rattle.eliminate.proofs.Members.{member-at}
-use Rattle.eliminate.proofs.SignTable.{entered-rows-start, entered-rows-next, entered-rows-end}
+use Rattle.eliminate.proofs.Ready.{row-well-formed}
+use Rattle.eliminate.proofs.SignTable.{terms-within, entered-rows-start, entered-rows-next, entered-rows-end}
 use Rattle.eliminate.proofs.signs.sign_table.Statement.{statement}
 use Rattle.eliminate.proofs.signs.sign_table.Tie as tie
 
@@ -35,7 +36,8 @@ enter-row-requires c κs =
     let h = c .before .before .before in
     let s = h .before .before .before in
     let rows = rowsTerms (s .args .rows) in
-    (omega arith, rw (c .row .ensures) (s .pre .0 (getD rows (h .loop .i) []) (member-at rows (h .loop .i) [] (omega arith)) .1))
+    let few = s .pre .few in
+    (omega arith, rw (c .row .ensures) (terms-within (getD rows (h .loop .i) []) (row-well-formed termSymbols rows (s .pre) (h .loop .i) (omega arith))))
 
 add-i : tie.Need-add-i Inv-loop μ-loop
 add-i c = search needs

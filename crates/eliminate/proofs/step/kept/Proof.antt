@@ -41,7 +41,7 @@ part-of-taken-requires c κs =
     let h = c .before .before in
     let s = h .before .before .before in
     let r = rowTerms (s .args .row) in
-    rw (c .term .ensures) (s .pre .0 (getD r (h .loop .i) noTerm) (member-at r (h .loop .i) noTerm (omega arith)) .1)
+    rw (c .term .ensures) (s .pre .0 (getD r (h .loop .i) noTerm) (member-at r (h .loop .i) noTerm (omega arith)))
 
 push-requires : tie.Need-push-requires Inv-loop μ-loop
 push-requires c κs = omega arith

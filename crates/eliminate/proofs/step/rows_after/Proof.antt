@@ -5,13 +5,12 @@ use mathlib.Core.List.{List, [], _∷_, _++_}
 use native.Mathlib.Omega.{arith}
 use borrow.Author.Needs.{needs}
 use lib.ListN.{length, drop, getD, length-append}
-use Rattle.limits.specs.Limits.{positions}
+use Rattle.limits.specs.Limits.{termSymbols}
 use Rattle.term.specs.declared.Term.{Term}
 use Rattle.elimination.specs.Elimination.{rowAfter, rowsAfter}
 use Rattle.eliminate.specs.State.{rowTerms, rowsTerms}
-use Rattle.eliminate.specs.Signs.{tableSigns}
-use Rattle.eliminate.specs.Step.{rowAfterBy}
-use Rattle.eliminate.proofs.Ready.{row-within, row-short, row-after-is, row-after-short}
+use Rattle.eliminate.proofs.Ready.{row-well-formed, row-short, ready-below}
+use Rattle.eliminate.proofs.SignTable.{table-signs}
 use Rattle.eliminate.proofs.Stepping.{rows-after-next, rows-after-end}
 use Rattle.eliminate.proofs.step.rows_after.Statement.{statement}
 use Rattle.eliminate.proofs.step.rows_after.Tie as tie
@@ -37,27 +36,29 @@ loop-holds c = (omega arith, rw (c .empty .ensures), rw (c .empty .ensures))
 row-requires : tie.Need-row-requires Inv-loop μ-loop
 row-requires c κs = omega arith
 
+taken-in-row-requires : tie.Need-taken-in-row-requires Inv-loop μ-loop
+taken-in-row-requires c κs = let few = c .before .before .before .before .before .pre .1 .few in omega arith
+
 row-after-requires : tie.Need-row-after-requires Inv-loop μ-loop
 row-after-requires c κs =
-    let h = c .before .before in
+    let h = c .before .before .before .before in
     let s = h .before .before .before in
     let a = s .args in
     let i = h .loop .i in
     let rows = rowsTerms (a .rows) in
     let ready = s .pre .1 in
-    let few = ready .few in
-    let limit = s .pre .2 in
     let l : i < length rows = omega arith in
-    rw (c .row .ensures, s .pre .0) (
+    let signs = table-signs rows (ready-below (a .symbol) termSymbols (omega arith) rows ready) i l in
+    rw (c .before .before .row .ensures) (
       omega arith,
-      omega arith,
-      row-within (a .symbol) rows ready limit i l,
-      row-short (a .symbol) rows ready limit i l,
-      rw (row-after-is (a .symbol) rows ready limit i l (a .d) (s .pre .3)) (row-after-short (a .symbol) rows ready limit i l (a .d)),
+      s .pre .3,
+      row-well-formed (a .symbol) rows ready i l,
+      row-short (a .symbol) rows ready i l,
+      c .before .taken-in-row .ensures .0 ∙ rw (s .pre .0, signs),
     )
 
 with-row-requires : tie.Need-with-row-requires Inv-loop μ-loop
-with-row-requires c κs = let few = c .before .before .before .before .before .before .pre .1 .few in omega arith
+with-row-requires c κs = let few = c .before .before .before .before .before .before .before .before .pre .1 .few in omega arith
 
 add-i : tie.Need-add-i Inv-loop μ-loop
 add-i c = search needs
@@ -67,15 +68,14 @@ loop-less c = search needs
 
 loop-again : tie.Need-loop-again Inv-loop μ-loop
 loop-again c =
-    let h = c .before .before .before .before in
+    let h = c .before .before .before .before .before .before in
     let s = h .before .before .before in
     let a = s .args in
     let i = h .loop .i in
     let rows = rowsTerms (a .rows) in
     let l : i < length rows = omega arith in
-    let table = ap (λ (x : List Term). rowAfterBy positions (a .symbol) (a .d) (tableSigns (a .signs .now) i) x) (c .before .before .row .ensures) in
     let own : rowTerms (c .before .row-after .result) ≡ rowAfter (a .symbol) (a .d) (getD rows i []) =
-    c .before .row-after .ensures ∙ table ∙ rw (s .pre .0) (row-after-is (a .symbol) rows (s .pre .1) (s .pre .2) i l (a .d) (s .pre .3)) in
+    c .before .row-after .ensures ∙ ap (rowAfter (a .symbol) (a .d)) (c .before .before .before .before .row .ensures) in
     let out : rowsTerms (c .with-row .result) ≡ rowsTerms (h .loop .out) ++ (rowAfter (a .symbol) (a .d) (getD rows i []) ∷ []) =
     c .with-row .ensures ∙ ap (λ (x : List Term). rowsTerms (h .loop .out) ++ (x ∷ [])) own in (
       omega arith,
@@ -100,6 +100,7 @@ rows-after-spec =
     empty-requires
     loop-holds
     row-requires
+    taken-in-row-requires
     row-after-requires
     with-row-requires
     add-i

@@ -1,20 +1,19 @@
--- `eliminate::pick::best_in_rows` meets its contract. Assumes nothing.
+-- `eliminate::pick::pick` meets its contract. Assumes nothing.
 use Prim.Native.Nat.{ℕ, _-_, _≤_}
 use mathlib.Core.Path.{_≡_, ap, sym, _∙_}
-use mathlib.Core.List.{[]}
 use native.Mathlib.Omega.{arith}
 use borrow.Author.Needs.{needs}
-use lib.ListN.{drop, getD}
-use Rattle.limits.specs.Limits.{positions}
+use lib.ListN.{drop}
+use Rattle.limits.specs.Limits.{positions, termSymbols}
 use Rattle.elimination.specs.Elimination.{before, noPairs, allPairs}
 use Rattle.elimination.specs.Lookup.{lookupBest}
 use Rattle.eliminate.specs.State.{rowsTerms}
 use Rattle.eliminate.specs.Signs.{rowsSignsFrom}
 use Rattle.eliminate.specs.Pick.{scoredOf}
-use Rattle.eliminate.proofs.Members.{member-at}
-use Rattle.eliminate.proofs.Picking.{rows-next, rows-end}
-use Rattle.eliminate.proofs.pick.best_in_rows.Statement.{statement}
-use Rattle.eliminate.proofs.pick.best_in_rows.Tie as tie
+use Rattle.eliminate.proofs.Ready.{row-well-formed}
+use Rattle.eliminate.proofs.Picking.{rows-next, rows-end, picked}
+use Rattle.eliminate.proofs.pick.pick.Statement.{statement}
+use Rattle.eliminate.proofs.pick.pick.Tie as tie
 
 abbrev Inv-loop : tie.InvT-loop
 Inv-loop signs rows m best₀ i₀ best i =
@@ -42,7 +41,8 @@ best-in-row-requires c κs =
     let h = c .before .before in
     let s = h .before .before .before in
     let rows = rowsTerms (s .args .rows) in
-    (omega arith, rw (c .row .ensures) (s .pre .1 (getD rows (h .loop .i) []) (member-at rows (h .loop .i) [] (omega arith)) .0))
+    let few = s .pre .1 .few in
+    (omega arith, rw (c .row .ensures) (row-well-formed termSymbols rows (s .pre .1) (h .loop .i) (omega arith) .ascending))
 
 add-i : tie.Need-add-i Inv-loop μ-loop
 add-i c = search needs
@@ -66,9 +66,10 @@ returns c =
     sym (rows-end positions (rowsSignsFrom (s .args .signs .now) 0 m) (rowsTerms (s .args .rows)) (h .loop .i) (scoredOf (h .loop .best)) (omega arith))
     ∙ h .loop .inv .1
     ∙ ap (λ (n : ℕ). lookupBest positions before (rowsSignsFrom (s .args .signs .now) 0 n) noPairs (allPairs (rowsTerms (s .args .rows)))) (h .before .before .m .ensures)
+    ∙ picked (rowsTerms (s .args .rows)) (s .pre .1) (s .args .signs .now) (s .pre .0)
 
-pub best-in-rows-spec : {M : Type 1} → statement M
-best-in-rows-spec =
+pub pick-spec : {M : Type 1} → statement M
+pick-spec =
     tie.close
     (tie.spec
     Inv-loop
