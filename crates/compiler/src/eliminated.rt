@@ -32,7 +32,8 @@ pub fn eliminate_rows(rows: Rows, n: u16) -> Eliminated
         let signs = signs::sign_table(left);
         let best = pick::pick(&signs, left);
         let divisor = best.divisor;
-        if best.score < 2 {
+        let score = best.score;
+        if score < 2 {
             return Eliminated {
                 operations,
                 replacements,
@@ -40,7 +41,7 @@ pub fn eliminate_rows(rows: Rows, n: u16) -> Eliminated
             };
         }
         operations = operations.push(divisor_operation(divisor));
-        replacements += best.score;
+        replacements += score;
         left = step::rows_after(&signs, symbol, divisor, left);
         symbol += 1;
     }

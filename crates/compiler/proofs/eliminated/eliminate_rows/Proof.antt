@@ -41,7 +41,7 @@ pick-requires c κs = let L = c .before .before in (c .before .sign-table .ensur
 
 returns : tie.Need-returns Inv-loop μ-loop
 returns c =
-    let p = c .before .before .before in
+    let p = c .before .before in
     let b = p .before .before .before .loop .inv in
     let e = ended-is b (scoredOf (p .pick .result)) (p .pick .ensures) (c .if1 .taken) in
     record {
@@ -53,7 +53,7 @@ returns c =
 -- a step is made
 module _ (c : tie.Else1 Inv-loop μ-loop) where
   abbrev found : tie.After-pick Inv-loop μ-loop
-  found = c .before .before .before
+  found = c .before .before
 
   abbrev at : tie.At-loop Inv-loop μ-loop
   at = found .before .before .before
@@ -77,11 +77,11 @@ push-requires : tie.Need-push-requires Inv-loop μ-loop
 push-requires c κs = let g = c .before in let b = at g .loop .inv in omega (arith, length-made b, b .few, less g, two g)
 
 add-replacements : tie.Need-add-replacements Inv-loop μ-loop
-add-replacements c = let g = c .before .before .before in omega (arith, less g, at g .loop .inv .replaced)
+add-replacements c = let g = c .before .before in omega (arith, less g, at g .loop .inv .replaced)
 
 rows-after-requires : tie.Need-rows-after-requires Inv-loop μ-loop
 rows-after-requires c κs =
-    let g = c .before .before .before .before in
+    let g = c .before .before .before in
     let L = at g in
     let table = within-table (L .loop .inv) (L .before .before .pre .1) in (
       found g .before .before .sign-table .ensures,
@@ -91,14 +91,14 @@ rows-after-requires c κs =
     )
 
 add-symbol : tie.Need-add-symbol Inv-loop μ-loop
-add-symbol c = omega (arith, symbol-within (c .before .before .before .before .before))
+add-symbol c = omega (arith, symbol-within (c .before .before .before .before))
 
 loop-less : tie.Need-loop-less Inv-loop μ-loop
-loop-less c = let g = c .before .before .before .before .before in rw (c .rows-after .ensures) (omega (arith, less g, two g))
+loop-less c = let g = c .before .before .before .before in rw (c .rows-after .ensures) (omega (arith, less g, two g))
 
 loop-again : tie.Need-loop-again Inv-loop μ-loop
 loop-again c =
-    let pushed = c .before .before .before in
+    let pushed = c .before .before in
     let g = pushed .before .before in
     let L = at g in
     let made = pushed .push .ensures ∙ ap (λ (o : Operation). operationsList (L .loop .operations) ++ (o ∷ [])) (pushed .before .divisor-operation .ensures) in
