@@ -89,7 +89,7 @@ module _ (c : tie.After-larger) where
   end-fits = omega (arith, c .larger .ensures, c .before .one-less .ensures, fits a .high, fits a .low)
 
 bit-count-requires : tie.Need-bit-count-requires
-bit-count-requires c κs = omega (arith, end-fits c)
+bit-count-requires c κs = search needs
 
 add-result : tie.Need-add-result
 add-result c = omega (arith, c .bit-count .ensures, bits-least (c .before .larger .result) 62 (end-fits (c .before)))
