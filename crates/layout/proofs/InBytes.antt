@@ -1,14 +1,21 @@
 -- The records that stand in bytes, read at their places.
 -- Assumes nothing.
-use Prim.Native.Nat.{ℕ, suc}
-use mathlib.Core.Path.{_≡_, refl, ap, _∙_}
+use Prim.Native.Nat.{ℕ, suc, _+_, _-_}
+use mathlib.Core.Path.{_≡_, refl, sym, ap, _∙_}
 use mathlib.Core.List.{List, _++_, flatMap, append-assoc}
-use lib.ListN.{length, drop, getD}
+use lib.ListN.{length, take, drop, getD}
+use Rattle.layout.proofs.Accepted.{payload-accepted}
 use Rattle.layout.proofs.FirstRecords.{first-is}
 use Rattle.layout.proofs.Lengths.{length-head, laidOut, operation-stands, output-stands}
 use Rattle.layout.proofs.RecordKinds.{operation, output, found}
+use Rattle.layout.specs.Bytes.{word}
 use Rattle.layout.specs.Records.{Netlist, headLength, headBytes, operationPayload, operationBytes, outputPayload, outputBytes, totalsBytes, netlistBytes}
-use Rattle.layout.specs.Places.{operationPlace, outputPlace, operationAt, outputAt, firstOperations, firstOutputs}
+use Rattle.layout.specs.Step.{stepRefusal, payloadAt}
+use Rattle.layout.specs.Places.{operationPlace, outputPlace, payloadOf, operationAt, outputAt, firstOperations, firstOutputs}
+
+-- the payload of a record whose length is the expected one
+pub payload-of : (b : List ℕ) (place size : ℕ) → stepRefusal b place ≡ 0 → word b place ≡ size → payloadAt b place ≡ payloadOf b place size
+payload-of b place size e l = sym (payload-accepted b place e) ∙ ap (λ (w : ℕ). take (w - 4) (drop (place + 4) b)) l
 
 -- what begins with a netlist's bytes holds its operations and outputs
 module _ (net : Netlist) (behind : List ℕ) where
