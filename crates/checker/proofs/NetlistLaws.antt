@@ -9,7 +9,7 @@ use lib.ListN.{length}
 use borrow.Author.Tests.{lt-ltb, le-ltb}
 use Rattle.layout.specs.declared.Head.{Head}
 use Rattle.layout.specs.declared.Totals.{Totals}
-use Rattle.layout.specs.Records.{Netlist, headLength, totalsLength}
+use Rattle.layout.specs.Records.{Netlist, headLength, operationLength, outputLength, totalsLength}
 use Rattle.layout.specs.Places.{operationPlace, outputPlace, totalsPlace, headAt, operationAt, outputAt, totalsAt, firstRecords, firstOutputs, operationsIn, outputsIn, totalsPlaceIn, netlistIn}
 use Rattle.layout.proofs.FirstRecords.{length-first}
 use Rattle.width.specs.Netlist.{HeadLimits, OperationLimits, OutputLimits}
@@ -17,7 +17,7 @@ use Rattle.checker.specs.declared.read.Refusal.{Refusal}
 use Rattle.reading.specs.Read.{Reading, refused, accepted, headRefusal, operationRefusal, outputRefusal, totalsRefusal, readOperations, readOutputs, leftoverRefusal, readNetlist, readRefused, readAccepted, readAnswerOf, readAnswer}
 use Rattle.reading.specs.Exact.{readLimits}
 use Rattle.checker.specs.Tables.{refusalOf, NetlistRead}
-use Rattle.checker.proofs.RecordLaws.{head-due, operation-due, output-due, none-refused, operationRecordRefusal, outputRecordRefusal}
+use Rattle.checker.proofs.RecordLaws.{head-due, operation-due, output-due, none-refused}
 
 -- ---- which part is refused
 
@@ -107,7 +107,7 @@ module _ (b : List ℕ) where
     head-limits = head-due b (N .head-due) .1
 
     pub operation-there : (k : ℕ) → k < headAt b .operations
-        → (operationRecordRefusal b k ≡ 0) × OperationLimits readLimits (headAt b .n + k) (operationAt b k)
+        → (operationPlace headLength k + operationLength ≤ length b) × OperationLimits readLimits (headAt b .n + k) (operationAt b k)
     unfolding firstRecords
     operation-there k h = operation-due b (headAt b .n) k
         (none-refused (operationRefusal b (headAt b .n)) (operationPlace headLength) (operationAt b) (headAt b .operations) 0 (operationsIn b) (N .operations-read) k (omega arith) (omega arith))
@@ -118,7 +118,7 @@ module _ (b : List ℕ) where
         (outputAt b (length (operationsIn b))) (headAt b .m) 0 (outputsIn b) (N .outputs-read) i (omega arith) (omega arith)
 
     pub output-there : (i : ℕ) → i < headAt b .m
-        → (outputRecordRefusal b (headAt b .operations) i ≡ 0)
+        → (outputPlace headLength (headAt b .operations) i + outputLength ≤ length b)
         × OutputLimits readLimits (headAt b .n + headAt b .operations) (outputAt b (headAt b .operations) i)
     output-there i h = output-due b (headAt b .n) (headAt b .operations) (operationsIn b) (length-first (operationAt b) (headAt b .operations)) i
         (rw (length-first (outputAt b (length (operationsIn b))) i) at (output-passed i h))

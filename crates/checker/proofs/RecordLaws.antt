@@ -8,7 +8,7 @@ use mathlib.Core.List.{List, []}
 use native.Mathlib.Omega.{arith}
 use native.Mathlib.Decide.{decLt}
 use lib.Dec.{eqb, leb}
-use lib.ListN.{length, drop, length-take, length-drop}
+use lib.ListN.{length}
 use borrow.Author.Tests.{eq-eqb, ne-eqb}
 use Rattle.limits.specs.Limits.{maxWidth}
 use Rattle.layout.specs.declared.Head.{Head}
@@ -16,16 +16,15 @@ use Rattle.layout.specs.declared.Operation.{Operation}
 use Rattle.layout.specs.declared.step.StepNumbers.{StepNumbers}
 use Rattle.layout.specs.Bytes.{word}
 use Rattle.layout.specs.Records.{headKind, headLength, operationKind, operationLength, outputKind, outputLength, totalsKind, totalsLength}
-use Rattle.layout.specs.Places.{operationPlace, outputPlace, payloadOf, headAt, operationAt, outputAt, totalsAt, firstRecords, firstOperations}
-use Rattle.layout.specs.Step.{stepRefusal, stepNumbers, payloadAt}
-use Rattle.layout.proofs.Accepted.{not-refused, numbers-refused, numbers-accepted}
+use Rattle.layout.specs.Places.{operationPlace, outputPlace, headAt, operationAt, outputAt, totalsAt, firstRecords, firstOperations}
+use Rattle.layout.specs.Step.{stepRefusal, stepNumbers}
+use Rattle.layout.proofs.Accepted.{numbers-refused, numbers-accepted}
 use Rattle.layout.proofs.FirstRecords.{length-first}
-use Rattle.layout.proofs.InBytes.{payload-of}
 use Rattle.width.specs.Netlist.{HeadLimits, OperationLimits, OutputLimits, TotalsRight}
 use Rattle.checker.specs.declared.read.Refusal.{Refusal}
 use Rattle.reading.specs.Read.{Reading, refused, accepted, readRecords, recordRefusal, headInRange, headRefusal, operationInRange, operationWidth, operationRefusal, outputInRange, outputWidth, outputRefusal, totalsRight, totalsRefusal, widthRight}
 use Rattle.reading.specs.Exact.{readLimits}
-use Rattle.reading.specs.Tests.{Whole, Expected, recordTests}
+use Rattle.reading.specs.Tests.{recordTests}
 use Rattle.checker.specs.Tables.{refusalOf}
 use Rattle.reading.proofs.TestLaws.{RefusedBy, read-more, read-stops}
 use Rattle.reading.proofs.Conditions.{and-says, same-says, at-most-says, head-says, operation-says, output-says, totals-says}
@@ -128,26 +127,13 @@ module _ (b : List ℕ) (place kind size : ℕ) where
         step-expected h = one-passes 8 (stepRefusal b place) (eqb (word b (place + 2)) kind && eqb (word b place) size) accepts
             (simp (eq-eqb (word b (place + 2)) kind (sym kind-is ∙ same), eq-eqb (word b place) size (omega (arith, next-is, h))))
 
-  -- the payload of a record that is due is that of its kind's length
-  module _ (enough : 4 ≤ size) (e : recordRefusal b place kind size ≡ 0) where
-    passed : Whole b place × Expected b place kind size
-    passed = go (record-refused b place kind size enough)
-      where
-        go : RefusedBy (recordTests b place kind size) (recordRefusal b place kind size) place → Whole b place × Expected b place kind size
-        go (inr f) = absurd (omega (arith, f .0, e))
-        go (inl a) = (a .1 .0, a .1 .1 .0)
-
-    pub payload-is : payloadAt b place ≡ payloadOf b place size
-    payload-is =
-        let w = passed .0 in
-        let x = passed .1 in
-        payload-of b place size (sym (not-refused b place (record { header = w .header; whole = w .within; least = omega (arith, x .its-length) }))) (x .its-length)
-
-    pub payload-length : length (payloadAt b place) ≡ size - 4
-    payload-length =
-        let w = passed .0 in
-        let x = passed .1 in
-        ap length payload-is ∙ omega (arith, length-take (size - 4) (drop (place + 4) b), length-drop (place + 4) b, w .within, w .header, x .its-length)
+  -- a record that is due stands in the bytes with its whole length
+  pub record-there : 4 ≤ size → recordRefusal b place kind size ≡ 0 → place + size ≤ length b
+  record-there enough e = go (record-refused b place kind size enough)
+    where
+      go : RefusedBy (recordTests b place kind size) (recordRefusal b place kind size) place → place + size ≤ length b
+      go (inr f) = absurd (omega (arith, f .0, e))
+      go (inl a) = omega (arith, a .1 .0 .header, a .1 .0 .within, a .1 .1 .0 .its-length)
 
 -- ---- the refusals of a netlist's records before their fields are tested
 
@@ -181,10 +167,10 @@ module _ (b : List ℕ) where
     pub head-accepted : headInRange (headAt b) ≡ true → 0 ≡ headRefusal b
     head-accepted h = one-passes 9 (headRecordRefusal b) (headInRange (headAt b)) due h ∙ head-tests
 
-  pub head-due : headRefusal b ≡ 0 → (headRecordRefusal b ≡ 0) × HeadLimits readLimits (headAt b)
+  pub head-due : headRefusal b ≡ 0 → (headLength ≤ length b) × HeadLimits readLimits (headAt b)
   head-due e =
       let p = one-passed 9 (headRecordRefusal b) (headInRange (headAt b)) (omega arith) (head-tests ∙ e) in
-      (p .0, head-says (headAt b) .0 (p .1))
+      (omega (arith, record-there b 0 headKind headLength (omega arith) (p .0)), head-says (headAt b) .0 (p .1))
 
 -- ---- operation k behind the k operations before it
 
@@ -218,10 +204,13 @@ module _ (b : List ℕ) (n k : ℕ) where
           → 0 ≡ operationRefusal b n (firstOperations b k)
       operation-accepted h = two-passes (operationRecordRefusal b k) inRange right due inside h ∙ operation-tests
 
-  pub operation-due : operationRefusal b n (firstOperations b k) ≡ 0 → (operationRecordRefusal b k ≡ 0) × OperationLimits readLimits (n + k) (operationAt b k)
+  pub operation-due : operationRefusal b n (firstOperations b k) ≡ 0
+      → (operationPlace headLength k + operationLength ≤ length b) × OperationLimits readLimits (n + k) (operationAt b k)
   operation-due e =
-      let p = two-passed (operationRecordRefusal b k) inRange right (operation-tests ∙ e) in
-      (p .0, operation-says (n + k) (operationAt b k) .0 (p .1))
+      let p = two-passed (operationRecordRefusal b k) inRange right (operation-tests ∙ e) in (
+        record-there b (operationPlace headLength k) operationKind operationLength (omega arith) (p .0),
+        operation-says (n + k) (operationAt b k) .0 (p .1),
+      )
 
 -- ---- output i of a netlist of the operations os
 
@@ -253,10 +242,13 @@ module _ (b : List ℕ) (n k : ℕ) (os : List Operation) (count : length os ≡
       pub output-accepted : widthRight (outputAt b k i .width) (outputWidth n os (outputAt b k i)) ≡ true → 0 ≡ outputRefusal b n os i
       output-accepted h = two-passes (outputRecordRefusal b k i) outputInside outputRight due inside h ∙ output-tests
 
-  pub output-due : outputRefusal b n os i ≡ 0 → (outputRecordRefusal b k i ≡ 0) × OutputLimits readLimits (n + k) (outputAt b k i)
+  pub output-due : outputRefusal b n os i ≡ 0
+      → (outputPlace headLength k i + outputLength ≤ length b) × OutputLimits readLimits (n + k) (outputAt b k i)
   output-due e =
-      let p = two-passed (outputRecordRefusal b k i) outputInside outputRight (output-tests ∙ e) in
-      (p .0, output-says (n + k) (outputAt b k i) .0 (p .1))
+      let p = two-passed (outputRecordRefusal b k i) outputInside outputRight (output-tests ∙ e) in (
+        record-there b (outputPlace headLength k i) outputKind outputLength (omega arith) (p .0),
+        output-says (n + k) (outputAt b k i) .0 (p .1),
+      )
 
 -- ---- totals
 
@@ -278,8 +270,9 @@ module _ (b : List ℕ) (place : ℕ) (h : Head) (os : List Operation) where
     pub totals-accepted : TotalsRight h os (totalsAt b place) → 0 ≡ totalsRefusal b place h os
     totals-accepted r = one-passes 11 (totalsRecordRefusal b place) totalsSame due (totals-says h os (totalsAt b place) .1 r) ∙ totals-tests
 
-  pub totals-due : totalsRefusal b place h os ≡ 0 → totalsRecordRefusal b place ≡ 0
-  totals-due e = one-passed 11 (totalsRecordRefusal b place) totalsSame (omega arith) (totals-tests ∙ e) .0
+  pub totals-due : totalsRefusal b place h os ≡ 0 → place + totalsLength ≤ length b
+  totals-due e =
+      record-there b place totalsKind totalsLength (omega arith) (one-passed 11 (totalsRecordRefusal b place) totalsSame (omega arith) (totals-tests ∙ e) .0)
 
 -- ---- records of one kind, one after another
 

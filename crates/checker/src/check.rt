@@ -3,6 +3,7 @@
 use layout::Output;
 use layout::places::HEAD_LENGTH;
 use layout::places::output_place;
+use layout::read::output_at;
 use limits::MAX_COLUMNS;
 use reading::CheckAnswer;
 use width::FORMS_LENGTH;
@@ -48,7 +49,7 @@ fn rows_answer(
     ensures { λ r. ⌜ r ≡ rowsMatched (now (matrix .entry)) (now (netlist .entry)) ⌝ }
 {
     for i in 0..m {
-        let o = super::read::output_at(netlist, output_place(HEAD_LENGTH, operations, i));
+        let o = output_at(netlist, output_place(HEAD_LENGTH, operations, i));
         if !same_row(matrix, i * n, o, n, forms) {
             return CheckAnswer {
                 refusal: 14,

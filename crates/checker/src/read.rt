@@ -2,7 +2,6 @@
 use layout::Head;
 use layout::Operation;
 use layout::Output;
-use layout::Totals;
 use layout::places::HEAD_KIND;
 use layout::places::HEAD_LENGTH;
 use layout::places::OPERATION_KIND;
@@ -13,6 +12,10 @@ use layout::places::TOTALS_KIND;
 use layout::places::TOTALS_LENGTH;
 use layout::places::operation_place;
 use layout::places::output_place;
+use layout::read::head_at;
+use layout::read::operation_at;
+use layout::read::output_at;
+use layout::read::totals_at;
 use limits::MAX_OPERATIONS;
 use limits::MAX_SYMBOLS;
 use limits::MAX_WIDTH;
@@ -24,8 +27,7 @@ ghost use mathlib.Core.Path.{_≡_};
 ghost use Prim.Native.Nat.{_≤_, _<_};
 ghost use lib.ListN.{length, take};
 ghost use Rattle.limits.specs.Limits.{maxRows, maxColumns, maxOperations, maxSymbols};
-ghost use Rattle.layout.specs.Records.{headKind, headLength, operationKind, operationLength, operationOf, outputKind, outputLength, outputOf, totalsKind, totalsLength};
-ghost use Rattle.layout.specs.Places.{payloadOf, headAt, totalsAt, firstOperations};
+ghost use Rattle.layout.specs.Places.{firstOperations};
 ghost use Rattle.width.specs.Machine.{largest};
 ghost use Rattle.width.specs.Table.{filled, formsLength};
 ghost use Rattle.reading.specs.Read.{recordRefusal, headInRange, headRefusal, operationInRange, outputInRange, outputRefusal, totalsRefusal, widthRight, readAnswer};
@@ -54,38 +56,6 @@ fn record_refusal(bytes: &[u8], place: usize, kind: u16, size: usize) -> u8
         return 8;
     }
     0
-}
-
-fn head_at(bytes: &[u8]) -> Head
-    requires { ⌜ recordRefusal (now bytes) 0 headKind headLength ≡ 0 ⌝ }
-    ensures { λ r. ⌜ r ≡ headAt (now (bytes .entry)) ⌝ }
-{
-    let payload = layout::step::payload(bytes, 0);
-    layout::read::read_head(payload)
-}
-
-pub(crate) fn operation_at(bytes: &[u8], place: usize) -> Operation
-    requires { ⌜ recordRefusal (now bytes) place operationKind operationLength ≡ 0 ⌝ }
-    ensures { λ r. ⌜ r ≡ operationOf (payloadOf (now (bytes .entry)) place operationLength) ⌝ }
-{
-    let payload = layout::step::payload(bytes, place);
-    layout::read::read_operation(payload)
-}
-
-pub(crate) fn output_at(bytes: &[u8], place: usize) -> Output
-    requires { ⌜ recordRefusal (now bytes) place outputKind outputLength ≡ 0 ⌝ }
-    ensures { λ r. ⌜ r ≡ outputOf (payloadOf (now (bytes .entry)) place outputLength) ⌝ }
-{
-    let payload = layout::step::payload(bytes, place);
-    layout::read::read_output(payload)
-}
-
-fn totals_at(bytes: &[u8], place: usize) -> Totals
-    requires { ⌜ recordRefusal (now bytes) place totalsKind totalsLength ≡ 0 ⌝ }
-    ensures { λ r. ⌜ r ≡ totalsAt (now (bytes .entry)) place ⌝ }
-{
-    let payload = layout::step::payload(bytes, place);
-    layout::read::read_totals(payload)
 }
 
 // ---- fields in range, and widths

@@ -2,6 +2,8 @@
 use layout::places::HEAD_LENGTH;
 use layout::places::operation_place;
 use layout::places::output_place;
+use layout::read::operation_at;
+use layout::read::output_at;
 use limits::MAX_SYMBOLS;
 use reading::RunAnswer;
 ghost use mathlib.Core.Path.{_≡_};
@@ -34,7 +36,7 @@ fn run_operations(netlist: &[u8], n: usize, operations: usize, values: &mut [i64
     ensures { λ r. ⌜ (length (now (values .exit)) ≡ maxSymbols) × (take (n + operations) (now (values .exit)) ≡ machine (take n (now (values .entry))) (operationsIn (now (netlist .entry)))) ⌝ }
 {
     for k in 0..operations {
-        let o = super::read::operation_at(netlist, operation_place(HEAD_LENGTH, k));
+        let o = operation_at(netlist, operation_place(HEAD_LENGTH, k));
         width::append_value(values, o, n + k);
     }
 }
@@ -53,7 +55,7 @@ fn fill_outputs(
     ensures { λ r. ⌜ now (outputs .exit) ≡ map (outputValue (now (values .entry))) (outputsIn (now (netlist .entry))) ⌝ }
 {
     for i in 0..m {
-        let o = super::read::output_at(netlist, output_place(HEAD_LENGTH, operations, i));
+        let o = output_at(netlist, output_place(HEAD_LENGTH, operations, i));
         let symbol = o.symbol as usize;
         let x = values[symbol];
         let y = width::output_value(o.sign, x, o.shift);

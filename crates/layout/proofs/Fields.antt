@@ -1,12 +1,16 @@
--- The fields of each kind of record: a written payload reads back, and bytes of a payload's length are those of the fields read.
+-- The fields of each kind of record: a written payload reads back, bytes of a payload's length are those of the fields read, and a
+-- payload's bytes stand 4 behind the record's place.
 -- Assumes nothing.
-use Prim.Native.Nat.{ℕ, zero, suc, _+_, _/_, _%_}
+use Prim.Native.Nat.{ℕ, zero, suc, _+_, _*_, _-_, _/_, _%_, _<_}
 use mathlib.Core.Path.{_≡_, refl, sym, ap, ap₂, _∙_}
 use mathlib.Core.List.{List, [], _∷_}
-use lib.ListN.{length, getD}
+use native.Mathlib.Omega.{arith}
+use lib.ListN.{length, getD, drop}
+use lib.Seq.{getD-take, getD-drop}
 use Rattle.layout.proofs.LittleEndian.{AreBytes, word-of, low-byte, high-byte}
 use Rattle.layout.specs.Bytes.{word}
 use Rattle.layout.specs.Records.{headPayload, headOf, operationPayload, operationOf, outputPayload, outputOf, totalsPayload, totalsOf}
+use Rattle.layout.specs.Places.{payloadOf}
 use Rattle.layout.specs.declared.Head.{Head}
 use Rattle.layout.specs.declared.Operation.{Operation}
 use Rattle.layout.specs.declared.Output.{Output}
@@ -68,3 +72,14 @@ module _ (p : List ℕ) (all : AreBytes p) where
   pub totals-bytes : length p ≡ 4 → totalsPayload (totalsOf p) ≡ p
   unfolding totalsOf totalsPayload elements
   totals-bytes l = rw (low 0, high 0, low 2, high 2) (its-elements 4 l)
+
+-- ---- a payload's bytes stand 4 behind the record's place
+
+module _ (bytes : List ℕ) (place size : ℕ) where
+  pub payload-byte : (i at : ℕ) → at ≡ place + 4 + i → i < size - 4 → getD (payloadOf bytes place size) i 0 ≡ getD bytes at 0
+  payload-byte i at e h =
+      getD-take (size - 4) (drop (place + 4) bytes) i 0 h ∙ getD-drop (place + 4) bytes i 0 ∙ ap (λ (j : ℕ). getD bytes j 0) (sym e)
+
+  pub payload-word : (i at : ℕ) → at ≡ place + 4 + i → i + 1 < size - 4 → word (payloadOf bytes place size) i ≡ word bytes at
+  payload-word i at e h =
+      ap₂ (λ (low high : ℕ). low + 256 * high) (payload-byte i at e (omega arith)) (payload-byte (i + 1) (at + 1) (omega arith) h)

@@ -1,57 +1,62 @@
-// Document 01, "Netlist and board machine": a reader of the fields of each kind of record, from its payload.
+// Document 01, "Netlist and board machine": a reader of the fields of each kind of record, at its place in bytes that hold the record.
+// A record's payload starts 4 bytes behind its place.
 use super::Head;
 use super::Operation;
 use super::Output;
 use super::Totals;
 use super::little_endian::word_at;
 ghost use mathlib.Core.Path.{_≡_};
-ghost use Prim.Native.Nat.{_-_, _≤_};
+ghost use Prim.Native.Nat.{_+_, _≤_};
 ghost use lib.ListN.{length};
-ghost use Rattle.layout.specs.Records.{headLength, headOf, operationLength, operationOf, outputLength, outputOf, totalsLength, totalsOf};
+ghost use Rattle.layout.specs.Records.{headLength, operationLength, operationOf, outputLength, outputOf, totalsLength};
+ghost use Rattle.layout.specs.Places.{payloadOf, headAt, totalsAt};
 
-pub fn read_head(payload: &[u8]) -> Head
-    requires { ⌜ headLength - 4 ≤ length (now payload) ⌝ }
-    ensures { λ r. ⌜ r ≡ headOf (now (payload .entry)) ⌝ }
+pub fn head_at(bytes: &[u8]) -> Head
+    requires { ⌜ headLength ≤ length (now bytes) ⌝ }
+    ensures { λ r. ⌜ r ≡ headAt (now (bytes .entry)) ⌝ }
 {
     Head {
-        m: payload[0],
-        n: payload[1],
-        operations: word_at(payload, 2),
+        m: bytes[4],
+        n: bytes[5],
+        operations: word_at(bytes, 6),
     }
 }
 
-pub fn read_operation(payload: &[u8]) -> Operation
-    requires { ⌜ operationLength - 4 ≤ length (now payload) ⌝ }
-    ensures { λ r. ⌜ r ≡ operationOf (now (payload .entry)) ⌝ }
+pub fn operation_at(bytes: &[u8], place: usize) -> Operation
+    requires { ⌜ place + operationLength ≤ length (now bytes) ⌝ }
+    ensures { λ r. ⌜ r ≡ operationOf (payloadOf (now (bytes .entry)) place operationLength) ⌝ }
 {
+    let payload = place + 4;
     Operation {
-        sign: payload[0],
-        a: word_at(payload, 1),
-        sa: payload[3],
-        b: word_at(payload, 4),
-        sb: payload[6],
-        width: payload[7],
+        sign: bytes[payload],
+        a: word_at(bytes, payload + 1),
+        sa: bytes[payload + 3],
+        b: word_at(bytes, payload + 4),
+        sb: bytes[payload + 6],
+        width: bytes[payload + 7],
     }
 }
 
-pub fn read_output(payload: &[u8]) -> Output
-    requires { ⌜ outputLength - 4 ≤ length (now payload) ⌝ }
-    ensures { λ r. ⌜ r ≡ outputOf (now (payload .entry)) ⌝ }
+pub fn output_at(bytes: &[u8], place: usize) -> Output
+    requires { ⌜ place + outputLength ≤ length (now bytes) ⌝ }
+    ensures { λ r. ⌜ r ≡ outputOf (payloadOf (now (bytes .entry)) place outputLength) ⌝ }
 {
+    let payload = place + 4;
     Output {
-        sign: payload[0],
-        symbol: word_at(payload, 1),
-        shift: payload[3],
-        width: payload[4],
+        sign: bytes[payload],
+        symbol: word_at(bytes, payload + 1),
+        shift: bytes[payload + 3],
+        width: bytes[payload + 4],
     }
 }
 
-pub fn read_totals(payload: &[u8]) -> Totals
-    requires { ⌜ totalsLength - 4 ≤ length (now payload) ⌝ }
-    ensures { λ r. ⌜ r ≡ totalsOf (now (payload .entry)) ⌝ }
+pub fn totals_at(bytes: &[u8], place: usize) -> Totals
+    requires { ⌜ place + totalsLength ≤ length (now bytes) ⌝ }
+    ensures { λ r. ⌜ r ≡ totalsAt (now (bytes .entry)) place ⌝ }
 {
+    let payload = place + 4;
     Totals {
-        operations: word_at(payload, 0),
-        depth: word_at(payload, 2),
+        operations: word_at(bytes, payload),
+        depth: word_at(bytes, payload + 2),
     }
 }

@@ -7,17 +7,11 @@ use native.Mathlib.Omega.{arith}
 use lib.ListN.{length, take, drop, drop-of-length-le}
 use lib.Seq.{take-at, drop-cons}
 use borrow.Rule.Slice.PartMut.{putMid}
-use Rattle.layout.specs.Places.{payloadOf, firstRecords}
+use Rattle.layout.specs.Places.{firstRecords}
 use Rattle.layout.proofs.FirstRecords.{length-first, getD-first}
 use Rattle.listing.specs.Listing.{lines}
 use Rattle.listing.specs.Wrote.{Wrote}
 use Rattle.listing.proofs.Wrote.{wrote-as, wrote-more, wrote-nothing}
-
--- the bytes from 4 behind a place up to a record's end are its payload
-pub payload-part : (bytes : List ℕ) (size : ℕ) {at place : ℕ} → at ≡ place → take (at + size - (at + 4)) (drop (at + 4) bytes) ≡ payloadOf bytes place size
-payload-part bytes size {at} {place} e =
-    let counted : at + size - (at + 4) ≡ size - 4 = omega arith in
-    ap₂ (λ (s p : ℕ). take s (drop (p + 4) bytes)) counted e
 
 -- so many records, their lines numbered from the first number on
 module _ {A : Type 0} (line : ℕ → A → List ℕ) (first : ℕ) (fields : ℕ → A) (total : ℕ) where

@@ -3,12 +3,10 @@
 use layout::Operation;
 use layout::Output;
 use layout::places::HEAD_LENGTH;
-use layout::places::OPERATION_LENGTH;
-use layout::places::OUTPUT_LENGTH;
 use layout::places::operation_place;
 use layout::places::output_place;
-use layout::read::read_operation;
-use layout::read::read_output;
+use layout::read::operation_at;
+use layout::read::output_at;
 ghost use mathlib.Core.Path.{_≡_};
 ghost use mathlib.Core.List.{_++_};
 ghost use Prim.Native.Nat.{_+_, _*_, _<_, _≤_};
@@ -196,9 +194,7 @@ fn write_operations(inputs: u16, operations: u16, netlist: &[u8], text: &mut [u8
     let mut at: usize = 0;
     while k < operations {
         let place = operation_place(HEAD_LENGTH, k as usize);
-        let payload = place + 4;
-        let end = place + OPERATION_LENGTH;
-        let operation = read_operation(&netlist[payload..end]);
+        let operation = operation_at(netlist, place);
         at += write_operation(inputs + k, operation, &mut text[at..]);
         k += 1;
     }
@@ -216,9 +212,7 @@ fn write_outputs(operations: u16, outputs: u16, netlist: &[u8], text: &mut [u8])
     let mut at: usize = 0;
     while row < outputs {
         let place = output_place(HEAD_LENGTH, operations as usize, row as usize);
-        let payload = place + 4;
-        let end = place + OUTPUT_LENGTH;
-        let output = read_output(&netlist[payload..end]);
+        let output = output_at(netlist, place);
         at += write_output(row, output, &mut text[at..]);
         row += 1;
     }

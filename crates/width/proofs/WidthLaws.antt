@@ -21,12 +21,12 @@ use Rattle.width.proofs.FormLaws.{entry-times, output-times, length-ent
 
 -- ---- the number of bits
 
-pub bits-from-done : (f k m : ℕ) → m < 2 ^ k → bitsFrom f k m ≡ k
+bits-from-done : (f k m : ℕ) → m < 2 ^ k → bitsFrom f k m ≡ k
 unfolding bitsFrom
 bits-from-done zero k m h = refl
 bits-from-done (suc f) k m h = rw (lt-ltb m (2 ^ k) h, bitsFrom)
 
-pub bits-from-more : (f k m : ℕ) → 2 ^ k ≤ m → bitsFrom (suc f) k m ≡ bitsFrom f (suc k) m
+bits-from-more : (f k m : ℕ) → 2 ^ k ≤ m → bitsFrom (suc f) k m ≡ bitsFrom f (suc k) m
 unfolding bitsFrom
 bits-from-more f k m h = rw (le-ltb m (2 ^ k) h, bitsFrom)
 
@@ -52,7 +52,7 @@ bits-from-least (suc f) k m j l h = go (decLt m (2 ^ k)) (decLt k j) (bits-from-
     go (no d) (yes e) r = rw (bits-from-more f k m (omega arith)) (r e h)
     go (no d) (no e) r = absurd (omega (arith, pow-mono {i = j} {j = k} (omega arith)))
 
-pub self-below : (m : ℕ) → m < 2 ^ m
+self-below : (m : ℕ) → m < 2 ^ m
 self-below zero = omega arith
 self-below (suc m) = omega (arith, self-below m)
 
@@ -64,6 +64,14 @@ bits-enough m = bits-from-enough m 0 m (let e : 0 + m ≡ m = omega arith in rw 
 pub bits-least : (m k : ℕ) → m < 2 ^ k → bits m ≤ k
 unfolding bits
 bits-least m k h = bits-from-least m 0 m k (omega arith) h
+
+-- no number but bits m has both
+pub bits-only : (m k : ℕ) → m < 2 ^ k → 2 ^ k ≤ 2 * m + 1 → bits m ≡ k
+bits-only m k h l = go (decLt (bits m) k)
+  where
+    go : Dec (bits m < k) → bits m ≡ k
+    go (yes d) = absurd (omega (arith, bits-enough m, pow-mono {i = suc (bits m)} {j = k} d))
+    go (no d) = omega (arith, bits-least m k h)
 
 -- ---- parts of integers
 

@@ -58,16 +58,9 @@ pub fn negative_part(c: i64) -> u64
 
 // The smallest k with m below 2^k.
 fn bit_count(m: u64) -> u8
-    requires { ⌜ m < 2 ^ 63 ⌝ }
     ensures { λ r. ⌜ r ≡ bits m ⌝ }
 {
-    let mut k: u8 = 0;
-    let mut p: u64 = 1;
-    while p <= m {
-        p *= 2;
-        k += 1;
-    }
-    k
+    (64 - u64::leading_zeros(m)) as u8
 }
 
 fn larger(a: u64, b: u64) -> u64

@@ -1,13 +1,13 @@
 -- `listing::write_operations` meets its contract. The loop's invariant: what is written and the lines left make the whole. Assumes nothing.
-use Prim.Native.Nat.{_*_, _-_, _≤_}
+use Prim.Native.Nat.{ℕ, _*_, _-_, _≤_}
 use mathlib.Core.Path.{_≡_, refl, ap, _∙_}
 use native.Mathlib.Omega.{arith}
 use lib.ListN.{length, length-take, length-drop}
 use Rattle.layout.specs.Records.{operationLength, operationOf}
-use Rattle.layout.specs.Places.{operationAt}
+use Rattle.layout.specs.Places.{payloadOf, operationAt}
 use Rattle.listing.specs.Listing.{operationLine}
 use Rattle.listing.specs.Records.{longestOperationLine}
-use Rattle.listing.proofs.Listed.{Listed, listed-start, listed-more, listed-end, payload-part}
+use Rattle.listing.proofs.Listed.{Listed, listed-start, listed-more, listed-end}
 use Rattle.listing.proofs.write_operations.Statement.{statement}
 use Rattle.listing.proofs.write_operations.Tie as tie
 
@@ -30,23 +30,8 @@ cast-operation-place c = omega arith
 operation-place-requires : tie.Need-operation-place-requires Inv-loop μ-loop
 operation-place-requires c κs = (omega arith, omega arith)
 
-add-payload : tie.Need-add-payload Inv-loop μ-loop
-add-payload c = omega arith
-
-add-end : tie.Need-add-end Inv-loop μ-loop
-add-end c = omega arith
-
-sub-read-operation : tie.Need-sub-read-operation Inv-loop μ-loop
-sub-read-operation c = omega arith
-
-part-read-operation-start : tie.Need-part-read-operation-start Inv-loop μ-loop
-part-read-operation-start c = omega arith
-
-part-read-operation-end : tie.Need-part-read-operation-end Inv-loop μ-loop
-part-read-operation-end c = omega arith
-
-read-operation-requires : tie.Need-read-operation-requires Inv-loop μ-loop
-read-operation-requires c κs = simp (length-take, length-drop) (omega arith)
+operation-at-requires : tie.Need-operation-at-requires Inv-loop μ-loop
+operation-at-requires c κs = omega arith
 
 add-write-operation : tie.Need-add-write-operation Inv-loop μ-loop
 add-write-operation c = omega arith
@@ -74,14 +59,14 @@ loop-less c = omega arith
 
 loop-again : tie.Need-loop-again Inv-loop μ-loop
 loop-again c =
-    let a = c .before .before .before .before .before .before .before .before .before .before .before .args in
-    let l = c .before .before .before .before .before .before .before .before .loop in
-    let h = c .before .before .before .before .before .before .before .loop-test .taken in
-    let place = c .before .before .before .before .before .before .operation-place in
-    let read = c .before .before .before .before .read-operation in
+    let a = c .before .before .before .before .before .before .before .before .before .before .args in
+    let l = c .before .before .before .before .before .before .before .loop in
+    let h = c .before .before .before .before .before .before .loop-test .taken in
+    let place = c .before .before .before .before .before .operation-place in
+    let read = c .before .before .before .before .operation-at in
     let wrote = c .before .before .write-operation in (
       listed-more operationLine (a .inputs) (operationAt (a .netlist .now)) (a .operations) (a .text .now) (l .inv .0) h
-          (read .ensures ∙ ap operationOf (payload-part (a .netlist .now) operationLength (place .ensures)))
+          (read .ensures ∙ ap (λ (p : ℕ). operationOf (payloadOf (a .netlist .now) p operationLength)) (place .ensures))
           refl
           (wrote .ensures .0),
       omega arith,
@@ -107,12 +92,7 @@ write-operations-spec =
     loop-holds
     cast-operation-place
     operation-place-requires
-    add-payload
-    add-end
-    sub-read-operation
-    part-read-operation-start
-    part-read-operation-end
-    read-operation-requires
+    operation-at-requires
     add-write-operation
     sub-write-operation
     part-write-operation-start

@@ -1,13 +1,13 @@
 -- `listing::write_outputs` meets its contract. The loop's invariant: what is written and the lines left make the whole. Assumes nothing.
-use Prim.Native.Nat.{_+_, _*_, _-_, _≤_}
+use Prim.Native.Nat.{ℕ, _+_, _*_, _-_, _≤_}
 use mathlib.Core.Path.{_≡_, refl, ap, _∙_}
 use native.Mathlib.Omega.{arith}
 use lib.ListN.{length, length-take, length-drop}
 use Rattle.layout.specs.Records.{outputLength, outputOf}
-use Rattle.layout.specs.Places.{outputAt}
+use Rattle.layout.specs.Places.{payloadOf, outputAt}
 use Rattle.listing.specs.Listing.{outputLine}
 use Rattle.listing.specs.Records.{longestOutputLine}
-use Rattle.listing.proofs.Listed.{Listed, listed-start, listed-more, listed-end, payload-part}
+use Rattle.listing.proofs.Listed.{Listed, listed-start, listed-more, listed-end}
 use Rattle.listing.proofs.write_outputs.Statement.{statement}
 use Rattle.listing.proofs.write_outputs.Tie as tie
 
@@ -30,23 +30,8 @@ cast-output-place c = omega arith
 output-place-requires : tie.Need-output-place-requires Inv-loop μ-loop
 output-place-requires c κs = (omega arith, omega arith, omega arith)
 
-add-payload : tie.Need-add-payload Inv-loop μ-loop
-add-payload c = omega arith
-
-add-end : tie.Need-add-end Inv-loop μ-loop
-add-end c = omega arith
-
-sub-read-output : tie.Need-sub-read-output Inv-loop μ-loop
-sub-read-output c = omega arith
-
-part-read-output-start : tie.Need-part-read-output-start Inv-loop μ-loop
-part-read-output-start c = omega arith
-
-part-read-output-end : tie.Need-part-read-output-end Inv-loop μ-loop
-part-read-output-end c = omega arith
-
-read-output-requires : tie.Need-read-output-requires Inv-loop μ-loop
-read-output-requires c κs = simp (length-take, length-drop) (omega arith)
+output-at-requires : tie.Need-output-at-requires Inv-loop μ-loop
+output-at-requires c κs = omega arith
 
 sub-write-output : tie.Need-sub-write-output Inv-loop μ-loop
 sub-write-output c = omega arith
@@ -71,15 +56,15 @@ loop-less c = omega arith
 
 loop-again : tie.Need-loop-again Inv-loop μ-loop
 loop-again c =
-    let a = c .before .before .before .before .before .before .before .before .before .before .before .args in
-    let l = c .before .before .before .before .before .before .before .before .loop in
-    let h = c .before .before .before .before .before .before .before .loop-test .taken in
-    let place = c .before .before .before .before .before .before .output-place in
-    let read = c .before .before .before .before .read-output in
+    let a = c .before .before .before .before .before .before .before .before .before .before .args in
+    let l = c .before .before .before .before .before .before .before .loop in
+    let h = c .before .before .before .before .before .before .loop-test .taken in
+    let place = c .before .before .before .before .before .output-place in
+    let read = c .before .before .before .before .output-at in
     let wrote = c .before .before .write-output in
     let numbered : l .row ≡ 0 + l .row = omega arith in (
       listed-more outputLine 0 (outputAt (a .netlist .now) (a .operations)) (a .outputs) (a .text .now) (l .inv .0) h
-          (read .ensures ∙ ap outputOf (payload-part (a .netlist .now) outputLength (place .ensures)))
+          (read .ensures ∙ ap (λ (p : ℕ). outputOf (payloadOf (a .netlist .now) p outputLength)) (place .ensures))
           numbered
           (wrote .ensures .0),
       omega arith,
@@ -105,12 +90,7 @@ write-outputs-spec =
     loop-holds
     cast-output-place
     output-place-requires
-    add-payload
-    add-end
-    sub-read-output
-    part-read-output-start
-    part-read-output-end
-    read-output-requires
+    output-at-requires
     sub-write-output
     part-write-output-start
     part-write-output-end

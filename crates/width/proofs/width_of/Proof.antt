@@ -3,7 +3,6 @@ use borrow.Author.Needs.{needs}
 use mathlib.Core.Path.{_≡_, refl, ap, _∙_}
 use Prim.Native.Nat.{ℕ, zero, suc, pred, _+_, _*_, _-_, _^_, _≤_, _<_, max}
 use native.Mathlib.Omega.{arith}
-use native.Mathlib.Numerals.{add-one}
 use lib.Pow.{pow-mono, pow-pos}
 use Rattle.width.specs.Width.{bits, highestOf, lowestOf}
 use Rattle.width.proofs.WidthLaws.{bits-least}
@@ -89,13 +88,13 @@ module _ (c : tie.After-larger) where
   end-fits = omega (arith, c .larger .ensures, c .before .one-less .ensures, fits a .high, fits a .low)
 
 bit-count-requires : tie.Need-bit-count-requires
-bit-count-requires c κs = omega (arith, end-fits c)
+bit-count-requires c κs = search needs
 
 add-result : tie.Need-add-result
 add-result c = omega (arith, c .bit-count .ensures, bits-least (c .before .larger .result) 62 (end-fits (c .before)))
 
 returns : tie.Need-returns
-returns c = rw add-one (ap suc (c .bit-count .ensures ∙ ap bits (end (c .before))))
+returns c = omega (arith, c .bit-count .ensures ∙ ap bits (end (c .before)))
 
 pub width-of-spec : {M : Type 1} → statement M
 width-of-spec =

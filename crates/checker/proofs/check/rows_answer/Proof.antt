@@ -11,7 +11,7 @@ use borrow.Author.Tests.{not-true, not-false}
 use Rattle.limits.specs.Limits.{maxRows, maxColumns, maxOperations, maxSymbols}
 use Rattle.layout.specs.declared.Output.{Output}
 use Rattle.layout.specs.Matrix.{rows, columns, matrix, coefficientsFrom}
-use Rattle.layout.specs.Records.{headLength, outputKind, outputLength, outputOf}
+use Rattle.layout.specs.Records.{headLength, outputLength, outputOf}
 use Rattle.layout.specs.Places.{outputPlace, payloadOf, headAt, outputAt, operationsIn, outputsIn}
 use Rattle.layout.proofs.MatrixRefusal.{accepted-matrix}
 use Rattle.layout.proofs.MatrixRows.{matrix-length}
@@ -19,7 +19,6 @@ use Rattle.layout.proofs.FirstRecords.{length-first}
 use Rattle.width.specs.Machine.{outputForm}
 use Rattle.width.specs.Table.{outputRow}
 use Rattle.width.specs.Netlist.{OutputOperand}
-use Rattle.reading.specs.Read.{recordRefusal}
 use Rattle.reading.specs.Check.{sameRow, rowsAnswer}
 use Rattle.reading.specs.Exact.{readLimits}
 use Rattle.checker.specs.Tables.{NetlistHeld, SameSizes, RowReady, rowsMatched}
@@ -98,8 +97,7 @@ placed : (c : tie.After-output-place Inv-loop μ-loop) → c .output-place .resu
 placed c = c .output-place .ensures ∙ ap (λ (k : ℕ). outputPlace headLength k (i (c .before))) (sizes (c .before) .operations-read)
 
 output-at-requires : tie.Need-output-at-requires Inv-loop μ-loop
-output-at-requires c κs = let d = c .before in
-    subst (λ (p : ℕ). recordRefusal (b d) p outputKind outputLength ≡ 0) (sym (placed c)) (output-there (b d) (H d .read) (i d) (inside d) .0)
+output-at-requires c κs = let d = c .before in omega (arith, placed c, output-there (b d) (H d .read) (i d) (inside d) .0)
 
 mul-same-row : tie.Need-mul-same-row Inv-loop μ-loop
 mul-same-row c = omega (arith, index (c .before .before))

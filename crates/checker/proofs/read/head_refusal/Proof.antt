@@ -1,8 +1,10 @@
 -- `checker::read::head_refusal` meets its contract. Assumes nothing.
 use mathlib.Core.Path.{_≡_, sym, ap, _∙_}
+use native.Mathlib.Omega.{arith}
+use Rattle.layout.specs.Records.{headKind, headLength}
 use Rattle.layout.specs.Places.{headAt}
 use Rattle.reading.specs.Read.{headInRange}
-use Rattle.checker.proofs.RecordLaws.{head-stops, head-outside, head-accepted, headRecordRefusal}
+use Rattle.checker.proofs.RecordLaws.{record-there, head-stops, head-outside, head-accepted, headRecordRefusal}
 use borrow.Author.Needs.{needs}
 use Rattle.checker.proofs.read.head_refusal.Statement.{statement}
 use Rattle.checker.proofs.read.head_refusal.Tie as tie
@@ -14,7 +16,7 @@ returns : tie.Need-returns
 returns c = c .before .record-refusal .ensures ∙ head-stops (c .before .before .before .args .bytes .now) (λ e. c .if1 .taken (c .before .record-refusal .ensures ∙ e))
 
 head-at-requires : tie.Need-head-at-requires
-head-at-requires c κs = search needs
+head-at-requires c κs = record-there _ 0 headKind headLength (omega arith) (sym (c .before .record-refusal .ensures) ∙ c .if1 .left)
 
 head-in-range-requires : tie.Need-head-in-range-requires
 head-in-range-requires c κs = search needs

@@ -1,13 +1,14 @@
 -- `checker::read::netlist` meets its contract. Assumes nothing.
-use mathlib.Core.Path.{_≡_, sym, ap, _∙_, subst}
+use mathlib.Core.Path.{_≡_, sym, ap, _∙_}
 use Prim.Native.Nat.{ℕ}
 use mathlib.Core.List.{List}
+use native.Mathlib.Omega.{arith}
 use Rattle.layout.specs.declared.Head.{Head}
 use Rattle.layout.specs.Places.{headAt, totalsAt, operationsIn, totalsPlaceIn, netlistIn}
 use Rattle.reading.specs.declared.ReadAnswer.{ReadAnswer}
 use Rattle.reading.specs.Read.{headRefusal, readNetlist}
 use Rattle.checker.specs.Tables.{NetlistHeld}
-use Rattle.checker.proofs.RecordLaws.{head-due, stop-answer, totals-due, totalsRecordRefusal}
+use Rattle.checker.proofs.RecordLaws.{head-due, stop-answer, totals-due}
 use Rattle.checker.proofs.NetlistLaws.{head-declines, answer-refused, answer-accepted, answer-fields, place-is}
 use borrow.Author.Needs.{needs}
 use Rattle.checker.proofs.read.netlist.Statement.{statement}
@@ -73,7 +74,7 @@ there c = let x = c .before .before .before in c .output-place .ensures ∙ plac
 
 totals-at-requires : tie.Need-totals-at-requires
 totals-at-requires c κs = let x = c .before .before .before in
-    subst (λ (p : ℕ). totalsRecordRefusal (b x) p ≡ 0) (sym (there c)) (totals-due (b x) (totalsPlaceIn (b x)) (headAt (b x)) (operationsIn (b x)) (held x .read .totals-due))
+    omega (arith, there c, totals-due (b x) (totalsPlaceIn (b x)) (headAt (b x)) (operationsIn (b x)) (held x .read .totals-due))
 
 returns-3 : tie.Need-returns-3
 returns-3 c = let p = c .before in let x = p .before .before .before in (

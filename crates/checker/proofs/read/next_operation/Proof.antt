@@ -19,7 +19,7 @@ use Rattle.reading.specs.Read.{recordRefusal, operationInRange, operationWidth,
 use Rattle.reading.specs.Exact.{readLimits}
 use Rattle.checker.specs.Tables.{FormsHeld, DepthsHeld}
 use Rattle.reading.proofs.Conditions.{operation-says}
-use Rattle.checker.proofs.RecordLaws.{width-says, operation-stops, operation-outside, operation-wide, operation-accepted, operationRecordRefusal}
+use Rattle.checker.proofs.RecordLaws.{record-there, width-says, operation-stops, operation-outside, operation-wide, operation-accepted, operationRecordRefusal}
 use Rattle.checker.proofs.HeldLaws.{operands-small, appended-width, appended-range, forms-appended, depth-asked, depths-appended}
 use borrow.Author.Needs.{needs}
 use Rattle.checker.proofs.read.next_operation.Statement.{statement}
@@ -56,7 +56,7 @@ returns c = let r = c .before in record {
 }
 
 operation-at-requires : tie.Need-operation-at-requires
-operation-at-requires c κs = search needs
+operation-at-requires c κs = record-there _ _ operationKind operationLength (omega arith) (sym (c .before .record-refusal .ensures) ∙ c .if1 .left)
 
 add-symbol : tie.Need-add-symbol
 add-symbol c = search needs

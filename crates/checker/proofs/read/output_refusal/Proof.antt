@@ -18,7 +18,7 @@ use Rattle.width.specs.Netlist.{OutputOperand}
 use Rattle.reading.specs.Read.{recordRefusal, outputInRange, outputWidth, widthRight}
 use Rattle.reading.specs.Exact.{readLimits}
 use Rattle.reading.proofs.Conditions.{output-says}
-use Rattle.checker.proofs.RecordLaws.{output-stops, output-outside, output-wide, output-accepted, outputRecordRefusal}
+use Rattle.checker.proofs.RecordLaws.{record-there, output-stops, output-outside, output-wide, output-accepted, outputRecordRefusal}
 use Rattle.checker.proofs.HeldLaws.{output-row-width, output-range}
 use borrow.Author.Needs.{needs}
 use Rattle.checker.proofs.read.output_refusal.Statement.{statement}
@@ -57,7 +57,7 @@ returns : tie.Need-returns
 returns c = let e = refusal-is (c .before) in let s = c .before .before .before .before in e ∙ output-stops (b s) (n s) (k s) (os s) (counted s) (i s) (λ z. c .if1 .taken (e ∙ z))
 
 output-at-requires : tie.Need-output-at-requires
-output-at-requires c κs = search needs
+output-at-requires c κs = record-there _ _ outputKind outputLength (omega arith) (sym (c .before .record-refusal .ensures) ∙ c .if1 .left)
 
 add-output-in-range : tie.Need-add-output-in-range
 add-output-in-range c = search needs

@@ -2,12 +2,14 @@
 use mathlib.Core.Path.{_≡_, sym, ap, _∙_}
 use Prim.Native.Nat.{ℕ}
 use mathlib.Core.List.{List}
+use native.Mathlib.Omega.{arith}
 use Rattle.layout.specs.declared.Head.{Head}
 use Rattle.layout.specs.declared.Operation.{Operation}
 use Rattle.layout.specs.declared.Totals.{Totals}
+use Rattle.layout.specs.Records.{totalsKind, totalsLength}
 use Rattle.layout.specs.Places.{totalsAt, firstOperations}
 use Rattle.width.specs.Machine.{depth}
-use Rattle.checker.proofs.RecordLaws.{totals-stop, totals-differ, totals-accepted, totalsRecordRefusal}
+use Rattle.checker.proofs.RecordLaws.{record-there, totals-stop, totals-differ, totals-accepted, totalsRecordRefusal}
 use Rattle.checker.proofs.HeldLaws.{depth-held}
 use borrow.Author.Needs.{needs}
 use Rattle.checker.proofs.read.totals_refusal.Statement.{statement}
@@ -33,7 +35,7 @@ returns : tie.Need-returns
 returns c = let e = c .before .record-refusal .ensures in let s = c .before .before .before in e ∙ totals-stop (b s) (place s) (h s) (os s) (λ z. c .if1 .taken (e ∙ z))
 
 totals-at-requires : tie.Need-totals-at-requires
-totals-at-requires c κs = search needs
+totals-at-requires c κs = record-there _ _ totalsKind totalsLength (omega arith) (sym (c .before .record-refusal .ensures) ∙ c .if1 .left)
 
 module _ (c : tie.After-totals-at) where
   abbrev s : tie.Start

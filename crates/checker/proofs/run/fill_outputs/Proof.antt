@@ -13,13 +13,12 @@ use mir.Val.{SFits, toZ, ofZ}
 use Rattle.limits.specs.Limits.{maxRows, maxOperations, maxSymbols}
 use Rattle.integers.proofs.Held.{is, held, call-result}
 use Rattle.layout.specs.declared.Output.{Output}
-use Rattle.layout.specs.Records.{headLength, outputKind, outputLength, outputOf}
+use Rattle.layout.specs.Records.{headLength, outputLength, outputOf}
 use Rattle.layout.specs.Places.{outputPlace, payloadOf, headAt, outputAt, outputsIn}
 use Rattle.width.specs.Machine.{entryAt, shifted, withSign, outputValue}
 use Rattle.width.specs.Table.{Small}
 use Rattle.width.specs.Netlist.{OutputOperand}
 use Rattle.width.proofs.TableLaws.{sets-none}
-use Rattle.reading.specs.Read.{recordRefusal}
 use Rattle.reading.specs.Exact.{readLimits}
 use Rattle.checker.specs.Tables.{NetlistRead}
 use Rattle.checker.proofs.NetlistLaws.{head-limits, output-there}
@@ -78,8 +77,7 @@ placed : (c : tie.After-output-place Inv-loop μ-loop) → c .output-place .resu
 placed c = c .output-place .ensures ∙ ap (λ (k : ℕ). outputPlace headLength k (i (c .before))) (s (c .before) .pre .1 .0 .1 .0)
 
 output-at-requires : tie.Need-output-at-requires Inv-loop μ-loop
-output-at-requires c κs = let d = c .before in
-    subst (λ (p : ℕ). recordRefusal (b d) p outputKind outputLength ≡ 0) (sym (placed c)) (output-there (b d) (N d) (i d) (inside d) .0)
+output-at-requires c κs = let d = c .before in omega (arith, placed c, output-there (b d) (N d) (i d) (inside d) .0)
 
 module _ (c : tie.After-output-at Inv-loop μ-loop) where
   abbrev d : tie.In-loop Inv-loop μ-loop

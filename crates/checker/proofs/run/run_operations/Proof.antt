@@ -8,12 +8,11 @@ use lib.IntN.{ℤ}
 use lib.ListN.{take}
 use Rattle.limits.specs.Limits.{maxSymbols}
 use Rattle.layout.specs.declared.Operation.{Operation}
-use Rattle.layout.specs.Records.{operationKind, operationLength, operationOf}
+use Rattle.layout.specs.Records.{operationLength, operationOf}
 use Rattle.layout.specs.Places.{payloadOf, headAt, operationAt, firstOperations}
 use Rattle.width.specs.Machine.{machine}
 use Rattle.width.specs.Table.{valueAppended}
 use Rattle.width.specs.Netlist.{OperationLimits}
-use Rattle.reading.specs.Read.{recordRefusal}
 use Rattle.reading.specs.Exact.{readLimits}
 use Rattle.checker.specs.Tables.{NetlistRead}
 use Rattle.checker.proofs.NetlistLaws.{head-limits, operation-there}
@@ -71,8 +70,7 @@ operation-place-requires : tie.Need-operation-place-requires Inv-loop μ-loop
 operation-place-requires c κs = (omega arith, omega (arith, small c))
 
 operation-at-requires : tie.Need-operation-at-requires Inv-loop μ-loop
-operation-at-requires c κs = let d = c .before in
-    subst (λ (p : ℕ). recordRefusal (b d) p operationKind operationLength ≡ 0) (sym (c .operation-place .ensures)) (operation-there (b d) (N d) (k d) (inside d) .0)
+operation-at-requires c κs = let d = c .before in omega (arith, c .operation-place .ensures, operation-there (b d) (N d) (k d) (inside d) .0)
 
 module _ (c : tie.After-operation-at Inv-loop μ-loop) where
   abbrev d : tie.In-loop Inv-loop μ-loop
