@@ -1,20 +1,17 @@
-// Document 01's five calls for hosts in C and Rust, over numbers and byte slices alone. Rests on compiler, checker, samples and layout.
+// Document 01's five calls for hosts in C and Rust, over numbers and slices of numbers alone. Rests on compiler, checker and layout.
 // Each function returns the refusal's number, 0 where it accepts, and writes the other numbers of the answer through the references.
-mod outputs; // outputs.rt: run, with samples and outputs as bytes
-
+// The names say raw: include/zaatarloft.h and rust/src/lib.rs have calls over them that give an answer as one struct.
 ghost use mathlib.Core.Path.{_≡_};
 ghost use lib.ListN.{length};
 ghost use Rattle.compilation.specs.Compile.{compileAnswer, compileBuffer};
 ghost use Rattle.reading.specs.Read.{readAnswer};
 ghost use Rattle.reading.specs.Check.{checkAnswer};
-ghost use Rattle.reading.specs.Run.{runAnswer};
-ghost use Rattle.samples.specs.Samples.{samplesOf};
-ghost use Rattle.ffi.specs.OutputBytes.{outputCount, runBytes};
+ghost use Rattle.reading.specs.Run.{runAnswer, runOutputs};
 ghost use Rattle.layout.specs.Step.{stepNumbers};
 
 // Compile: from a matrix record to its netlist, at the start of the lent buffer.
 #[no_mangle]
-pub extern "C" fn zaatarloft_compile(
+pub extern "C" fn zaatarloft_raw_compile(
     matrix: &[u8],
     buffer: &mut [u8],
     place: &mut usize,
@@ -41,7 +38,7 @@ pub extern "C" fn zaatarloft_compile(
 
 // Read: m, n, operations and depth of a netlist.
 #[no_mangle]
-pub extern "C" fn zaatarloft_read(
+pub extern "C" fn zaatarloft_raw_read(
     netlist: &[u8],
     place: &mut usize,
     m: &mut u8,
@@ -62,7 +59,7 @@ pub extern "C" fn zaatarloft_read(
 
 // Check: whether a netlist computes a matrix.
 #[no_mangle]
-pub extern "C" fn zaatarloft_check(matrix: &[u8], netlist: &[u8], place: &mut usize) -> u8
+pub extern "C" fn zaatarloft_raw_check(matrix: &[u8], netlist: &[u8], place: &mut usize) -> u8
     ensures { λ r. ⌜ record { refusal = r; place = now (place .exit) } ≡ checkAnswer (now (matrix .entry)) (now (netlist .entry)) ⌝ }
 {
     let checked = checker::check::check(matrix, netlist);
@@ -70,25 +67,25 @@ pub extern "C" fn zaatarloft_check(matrix: &[u8], netlist: &[u8], place: &mut us
     checked.refusal
 }
 
-// Run: a netlist on samples of 2 bytes each, into outputs of 8 bytes each, both little-endian two's complement.
+// Run: a netlist on samples, into the lent outputs.
 #[no_mangle]
-pub extern "C" fn zaatarloft_run(
+pub extern "C" fn zaatarloft_raw_run(
     netlist: &[u8],
-    samples: &[u8],
-    outputs: &mut [u8],
+    samples: &[i16],
+    outputs: &mut [i64],
     place: &mut usize,
 ) -> u8
-    ensures { λ r. ⌜ record { refusal = r; place = now (place .exit) } ≡ runAnswer (now (netlist .entry)) (length (samplesOf (now (samples .entry)))) (outputCount (now (outputs .entry))) ⌝ }
-    ensures { λ _. ⌜ now (outputs .exit) ≡ runBytes (now (netlist .entry)) (samplesOf (now (samples .entry))) (now (outputs .entry)) ⌝ }
+    ensures { λ r. ⌜ record { refusal = r; place = now (place .exit) } ≡ runAnswer (now (netlist .entry)) (length (now (samples .entry))) (length (now (outputs .entry))) ⌝ }
+    ensures { λ _. ⌜ now (outputs .exit) ≡ runOutputs (now (netlist .entry)) (now (samples .entry)) (now (outputs .entry)) ⌝ }
 {
-    let ran = outputs::run_to_bytes(netlist, samples, outputs);
+    let ran = checker::run::run(netlist, samples, outputs);
     *place = ran.place;
     ran.refusal
 }
 
 // Step: the numbers of the step over the record at a place. An accepted record's payload starts 4 bytes behind that place and ends at the next.
 #[no_mangle]
-pub extern "C" fn zaatarloft_step(
+pub extern "C" fn zaatarloft_raw_step(
     bytes: &[u8],
     at: usize,
     place: &mut usize,
