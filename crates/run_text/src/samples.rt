@@ -9,20 +9,19 @@ ghost use Prim.Native.Nat.{_*_, _≤_};
 ghost use lib.ListN.{length, take};
 ghost use Rattle.limits.specs.Limits.{maxColumns};
 ghost use Rattle.reading.specs.Run.{runAnswer, runOutputs};
-ghost use Rattle.samples.specs.Samples.{samplesOf, firstSamples, LentSamples};
+ghost use Rattle.run_text.specs.Samples.{sampleCount, samplesOf, firstSamples};
 
-// How many samples to lend: all, or none where they are more than any netlist's columns, since no netlist takes so many.
-fn lent_count(bytes: &[u8]) -> usize
-    ensures { λ r. ⌜ LentSamples (now (bytes .entry)) r ⌝ }
+// One sample more than any netlist takes.
+const TOO_MANY: usize = MAX_COLUMNS + 1;
+
+// How many samples the bytes hold. An odd number of bytes counts as too many.
+fn sample_count(bytes: &[u8]) -> usize
+    ensures { λ r. ⌜ r ≡ sampleCount (now (bytes .entry)) ⌝ }
 {
     if bytes.len() % 2 == 1 {
-        return 0;
+        return TOO_MANY;
     }
-    let count = bytes.len() / 2;
-    if count > MAX_COLUMNS {
-        return 0;
-    }
-    count
+    bytes.len() / 2
 }
 
 // So many samples.
@@ -37,12 +36,16 @@ fn decoded(bytes: &[u8], count: usize) -> [i16; MAX_COLUMNS]
     samples
 }
 
-// Run on the samples that the bytes hold. An odd number of bytes holds none.
-pub fn run_on_bytes(netlist: &[u8], samples: &[u8], outputs: &mut [i64]) -> RunAnswer
+// Run on the samples that the bytes hold. Too many are refused whatever they are, so zeros stand for them.
+pub(crate) fn run_on_bytes(netlist: &[u8], samples: &[u8], outputs: &mut [i64]) -> RunAnswer
     ensures { λ r. ⌜ r ≡ runAnswer (now (netlist .entry)) (length (samplesOf (now (samples .entry)))) (length (now (outputs .entry))) ⌝ }
     ensures { λ r. ⌜ now (outputs .exit) ≡ runOutputs (now (netlist .entry)) (samplesOf (now (samples .entry))) (now (outputs .entry)) ⌝ }
 {
-    let count = lent_count(samples);
+    let count = sample_count(samples);
+    if count > MAX_COLUMNS {
+        let zeros: [i16; TOO_MANY] = [0; TOO_MANY];
+        return checker::run::run(netlist, &zeros, outputs);
+    }
     let vector = decoded(samples, count);
     checker::run::run(netlist, &vector[..count], outputs)
 }

@@ -1,4 +1,4 @@
--- `samples::decoded` meets its contract. The samples before i are there. Assumes nothing.
+-- `run_text::samples::decoded` meets its contract. The samples before i are there. Assumes nothing.
 use Prim.Native.Nat.{_-_, _≤_}
 use mathlib.Core.Path.{_≡_, refl, ap, _∙_}
 use native.Mathlib.Omega.{arith}
@@ -9,10 +9,10 @@ use Rattle.limits.specs.Limits.{maxColumns}
 use Rattle.integers.proofs.Held.{call-result}
 use Rattle.layout.specs.Matrix.{signedWord}
 use Rattle.layout.specs.Places.{firstRecords}
-use Rattle.samples.specs.Samples.{firstSamples}
-use Rattle.samples.proofs.Samples.{next-sample}
-use Rattle.samples.proofs.decoded.Statement.{statement}
-use Rattle.samples.proofs.decoded.Tie as tie
+use Rattle.run_text.specs.Samples.{firstSamples}
+use Rattle.run_text.proofs.SampleBytes.{next-sample}
+use Rattle.run_text.proofs.samples.decoded.Statement.{statement}
+use Rattle.run_text.proofs.samples.decoded.Tie as tie
 
 abbrev Inv-loop : tie.InvT-loop
 Inv-loop bytes count samples₀ i₀ samples i = (i ≤ count) × ((length samples ≡ maxColumns) × (take i samples ≡ firstSamples bytes i))
