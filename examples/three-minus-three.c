@@ -1,63 +1,56 @@
 /* Document 01's example from C: compiles the row 3, -3, then steps over, reads, checks and runs the netlist.
  *
- *     rt staticlib ffi
- *     cc -I include examples/three-minus-three.c target/staticlib/libffi.a -o three-minus-three
+ *     rt staticlib zaatarloft
+ *     cc -I include examples/three-minus-three.c -L target/staticlib -lzaatarloft -o three-minus-three
  */
 #include "zaatarloft.h"
 
+#include <inttypes.h>
 #include <stdio.h>
 
 static void print_records(const uint8_t *netlist, size_t length)
 {
     size_t at = 0;
     while (at < length) {
-        size_t place, next;
-        uint16_t kind;
-        uint8_t refusal = zaatarloft_step(netlist, length, at, &place, &kind, &next);
-        if (refusal != 0) {
-            printf("refused %u at %zu\n", refusal, place);
+        struct zaatarloft_record record = zaatarloft_step(netlist, length, at);
+        if (record.refusal != 0) {
+            printf("refused %u at %zu\n", record.refusal, record.place);
             return;
         }
-        printf("record at %zu: kind %u, payload", at, kind);
-        for (size_t i = at + 4; i < next; i++) {
-            printf(" %02X", netlist[i]);
+        printf("record at %zu: kind %u, payload", at, record.kind);
+        for (size_t i = 0; i < record.payload_length; i++) {
+            printf(" %02X", record.payload[i]);
         }
         printf("\n");
-        at = next;
+        at = record.next;
     }
 }
 
 int main(void)
 {
     static const uint8_t matrix[] = {0x0A, 0x00, 0x01, 0x00, 0x01, 0x02, 0x03, 0x00, 0xFD, 0xFF};
-    static const uint8_t samples[] = {0xFF, 0x7F, 0x00, 0x80}; /* 32,767 and -32,768 */
-    uint8_t netlist[ZAATARLOFT_NETLIST_BYTES];
-    uint8_t outputs[8];
-    size_t place, written;
-    uint16_t operations, plain, divisors, replacements, depth;
-    uint8_t m, n, refusal;
+    static const int16_t samples[] = {32767, -32768};
+    uint8_t buffer[ZAATARLOFT_NETLIST_BYTES];
+    int64_t outputs[1];
 
-    refusal = zaatarloft_compile(matrix, sizeof matrix, netlist, 48, &place, &written, &operations, &plain, &divisors,
-                                 &replacements, &depth);
-    printf("compile into 48 bytes: refusal %u at %zu, written %zu\n", refusal, place, written);
+    struct zaatarloft_compiled compiled = zaatarloft_compile(matrix, sizeof matrix, buffer, 48);
+    printf("compile into 48 bytes: refusal %u at %zu, %s, written %zu\n", compiled.refusal, compiled.place,
+           zaatarloft_refusal_words(compiled.refusal), compiled.written);
 
-    refusal = zaatarloft_compile(matrix, sizeof matrix, netlist, sizeof netlist, &place, &written, &operations, &plain,
-                                 &divisors, &replacements, &depth);
+    compiled = zaatarloft_compile(matrix, sizeof matrix, buffer, sizeof buffer);
     printf("compile: refusal %u at %zu, written %zu, operations %u, plain %u, divisors %u, replacements %u, depth %u\n",
-           refusal, place, written, operations, plain, divisors, replacements, depth);
-    print_records(netlist, written);
+           compiled.refusal, compiled.place, compiled.written, compiled.operations, compiled.plain, compiled.divisors,
+           compiled.replacements, compiled.depth);
+    print_records(buffer, compiled.written);
 
-    refusal = zaatarloft_read(netlist, written, &place, &m, &n, &operations, &depth);
-    printf("read: refusal %u at %zu, m %u, n %u, operations %u, depth %u\n", refusal, place, m, n, operations, depth);
+    struct zaatarloft_netlist netlist = zaatarloft_read(buffer, compiled.written);
+    printf("read: refusal %u at %zu, m %u, n %u, operations %u, depth %u\n", netlist.refusal, netlist.place, netlist.m,
+           netlist.n, netlist.operations, netlist.depth);
 
-    refusal = zaatarloft_check(matrix, sizeof matrix, netlist, written, &place);
-    printf("check: refusal %u at %zu\n", refusal, place);
+    struct zaatarloft_checked checked = zaatarloft_check(matrix, sizeof matrix, buffer, compiled.written);
+    printf("check: refusal %u at %zu\n", checked.refusal, checked.place);
 
-    refusal = zaatarloft_run(netlist, written, samples, sizeof samples, outputs, sizeof outputs, &place);
-    printf("run: refusal %u at %zu, output", refusal, place);
-    for (size_t i = 0; i < sizeof outputs; i++) {
-        printf(" %02X", outputs[i]);
-    }
-    printf("\n");
+    struct zaatarloft_ran ran = zaatarloft_run(buffer, compiled.written, samples, 2, outputs, 1);
+    printf("run: refusal %u at %zu, output %" PRId64 "\n", ran.refusal, ran.place, outputs[0]);
     return 0;
 }

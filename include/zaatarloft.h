@@ -1,34 +1,15 @@
-/* Zaatarloft's calls for C: compile, read, check, run and step, as document 01, the specification, has them.
- * The library is target/staticlib/libffi.a, for x86-64 Linux; `rt staticlib ffi` proves and builds it. Link it by its path.
+/* Zaatarloft's calls for C and C++: compile, read, check, run and step, as document 01, the specification, has them.
+ * The library is target/staticlib/libzaatarloft.a, for x86-64 Linux; `rt staticlib zaatarloft` proves and builds it.
  *
- * Every call returns the refusal's number, 0 where it accepts, and writes all other numbers of its answer through the pointers,
- * also where it refuses: then the place is as in the table below, and every other number is 0. An accepted call has place 0.
- * A call lent any bytes at all ends, reads only the bytes lent, and writes only the numbers and the buffer or outputs lent.
+ * Every call returns its answer as a struct: the refusal's number, 0 where it accepts, its place, then the other numbers, which
+ * are 0 where it refuses. An accepted call has place 0. Use these calls and not the raw functions under them: a later version
+ * may add numbers to an answer, which changes the raw functions' parameters and leaves the source of callers valid.
+ * A call lent anything at all ends, reads only what is lent, and writes only the buffer or outputs lent.
  *
- * What the caller owes: no pointer is NULL, also where a length is 0; each is aligned and valid for its length; what is lent to
- * be written overlaps nothing else that is lent to the same call; and nobody else writes what is lent while the call runs.
+ * What the caller owes: no pointer is NULL, also where a length is 0; each is aligned and valid for its length, which counts
+ * bytes, samples or outputs; what is lent to be written overlaps nothing else that is lent to the same call; and nobody else
+ * writes what is lent while the call runs.
  * A call keeps no pointer and uses no memory but its stack: a stack of 96 KB was enough for compile, and 48 KB for the others.
- *
- * Why a record was declined:
- *
- *   1, place 0               fewer than 6 matrix bytes
- *   2, place 0               length field differs from the number of bytes lent
- *   3, place 0               kind is not 1
- *   4, place 0               m or n outside 1 to 8
- *   5, place 0               length is not 6 + 2 times m times n
- *   6, place 0               output buffer shorter than the netlist
- *   7, record's start        under 4 bytes remain, or the length exceeds what remains
- *   8, record's start        kind or length not the expected one
- *   9, record's start        a field other than a recorded width or a total out of range, an operand not earlier than its
- *                            operation, an output symbol not below n + operations, or a zero output not with symbol 0, shift 0
- *                            and width 1
- *   10, record's start       recorded width is not the width, or the width exceeds 40
- *   11, record's start       totals differ from the head's count or the depth
- *   12, place after totals   bytes left over
- *   13, place 0              m or n of matrix and netlist differ
- *   14, place = row, from 0  lowest row whose coefficients differ
- *   15, place 0              samples are not n
- *   16, place 0              outputs lent are not m
  */
 #ifndef ZAATARLOFT_H
 #define ZAATARLOFT_H
@@ -43,29 +24,166 @@
 extern "C" {
 #endif
 
+/* ---- Why a record was declined */
+
+/* Document 01's words for a refusal's number, and beside them its place; NULL for another number. In 9, a zero output as above
+ * has symbol 0, shift 0 and width 1. */
+static inline const char *zaatarloft_refusal_words(uint8_t refusal)
+{
+    switch (refusal) {
+    case 1: /* place 0 */
+        return "fewer than 6 matrix bytes";
+    case 2: /* place 0 */
+        return "length field differs from the number of bytes lent";
+    case 3: /* place 0 */
+        return "kind is not 1";
+    case 4: /* place 0 */
+        return "m or n outside 1 to 8";
+    case 5: /* place 0 */
+        return "length is not 6 + 2 times m times n";
+    case 6: /* place 0 */
+        return "output buffer shorter than the netlist";
+    case 7: /* record's start */
+        return "under 4 bytes remain, or the length exceeds what remains";
+    case 8: /* record's start */
+        return "kind or length not the expected one";
+    case 9: /* record's start */
+        return "a field other than a recorded width or a total out of range, an operand not earlier than its operation, "
+               "an output symbol not below n + operations, or a zero output not as above, its width included";
+    case 10: /* record's start */
+        return "recorded width is not the width, or the width exceeds 40";
+    case 11: /* record's start */
+        return "totals differ from the head's count or the depth";
+    case 12: /* place after totals */
+        return "bytes left over";
+    case 13: /* place 0 */
+        return "m or n of matrix and netlist differ";
+    case 14: /* place = row, from 0 */
+        return "lowest row whose coefficients differ";
+    case 15: /* place 0 */
+        return "samples are not n";
+    case 16: /* place 0 */
+        return "outputs lent are not m";
+    default:
+        return NULL;
+    }
+}
+
+/* ---- The functions that the library exports
+ *
+ * Each returns the refusal's number and writes all other numbers of its answer through the pointers, also where it refuses. */
+
+uint8_t zaatarloft_raw_compile(const uint8_t *matrix, size_t matrix_length, uint8_t *buffer, size_t buffer_length,
+                               size_t *place, size_t *written, uint16_t *operations, uint16_t *plain, uint16_t *divisors,
+                               uint16_t *replacements, uint16_t *depth);
+
+uint8_t zaatarloft_raw_read(const uint8_t *netlist, size_t netlist_length, size_t *place, uint8_t *m, uint8_t *n,
+                            uint16_t *operations, uint16_t *depth);
+
+uint8_t zaatarloft_raw_check(const uint8_t *matrix, size_t matrix_length, const uint8_t *netlist, size_t netlist_length,
+                             size_t *place);
+
+uint8_t zaatarloft_raw_run(const uint8_t *netlist, size_t netlist_length, const int16_t *samples, size_t samples_length,
+                           int64_t *outputs, size_t outputs_length, size_t *place);
+
+uint8_t zaatarloft_raw_step(const uint8_t *bytes, size_t bytes_length, size_t at, size_t *place, uint16_t *kind,
+                            size_t *next);
+
+/* ---- The calls */
+
+struct zaatarloft_compiled {
+    uint8_t refusal;
+    size_t place;
+    size_t written; /* bytes of the buffer */
+    uint16_t operations;
+    uint16_t plain;
+    uint16_t divisors;
+    uint16_t replacements;
+    uint16_t depth;
+};
+
 /* From a matrix record to its netlist, in the first `written` bytes of the buffer; the bytes behind them, and all where it
  * refuses, stay as they were. Refusals 1 to 6. */
-uint8_t zaatarloft_compile(const uint8_t *matrix, size_t matrix_length, uint8_t *buffer, size_t buffer_length,
-                           size_t *place, size_t *written, uint16_t *operations, uint16_t *plain, uint16_t *divisors,
-                           uint16_t *replacements, uint16_t *depth);
+static inline struct zaatarloft_compiled zaatarloft_compile(const uint8_t *matrix, size_t matrix_length, uint8_t *buffer,
+                                                            size_t buffer_length)
+{
+    struct zaatarloft_compiled answer;
+    answer.refusal = zaatarloft_raw_compile(matrix, matrix_length, buffer, buffer_length, &answer.place, &answer.written,
+                                            &answer.operations, &answer.plain, &answer.divisors, &answer.replacements,
+                                            &answer.depth);
+    return answer;
+}
+
+struct zaatarloft_netlist {
+    uint8_t refusal;
+    size_t place;
+    uint8_t m;
+    uint8_t n;
+    uint16_t operations;
+    uint16_t depth;
+};
 
 /* Reads a netlist, and with it tests every record of it. Refusals 7 to 12. */
-uint8_t zaatarloft_read(const uint8_t *netlist, size_t netlist_length, size_t *place, uint8_t *m, uint8_t *n,
-                        uint16_t *operations, uint16_t *depth);
+static inline struct zaatarloft_netlist zaatarloft_read(const uint8_t *netlist, size_t netlist_length)
+{
+    struct zaatarloft_netlist answer;
+    answer.refusal = zaatarloft_raw_read(netlist, netlist_length, &answer.place, &answer.m, &answer.n, &answer.operations,
+                                         &answer.depth);
+    return answer;
+}
+
+struct zaatarloft_checked {
+    uint8_t refusal;
+    size_t place;
+};
 
 /* Accepts a netlist that computes the matrix, whoever made it. Refusals 1 to 5 (the matrix), 7 to 12 (the netlist), 13, 14. */
-uint8_t zaatarloft_check(const uint8_t *matrix, size_t matrix_length, const uint8_t *netlist, size_t netlist_length,
-                         size_t *place);
+static inline struct zaatarloft_checked zaatarloft_check(const uint8_t *matrix, size_t matrix_length, const uint8_t *netlist,
+                                                         size_t netlist_length)
+{
+    struct zaatarloft_checked answer;
+    answer.refusal = zaatarloft_raw_check(matrix, matrix_length, netlist, netlist_length, &answer.place);
+    return answer;
+}
 
-/* Runs a netlist on n samples of 2 bytes each and fills m outputs of 8 bytes each, both little-endian two's complement; lengths
- * count bytes. An odd number of sample bytes counts as no sample, and output bytes that are no multiple of 8 count as no output.
- * The outputs stay as they were where it refuses. Refusals 7 to 12, 15, 16. */
-uint8_t zaatarloft_run(const uint8_t *netlist, size_t netlist_length, const uint8_t *samples, size_t samples_length,
-                       uint8_t *outputs, size_t outputs_length, size_t *place);
+struct zaatarloft_ran {
+    uint8_t refusal;
+    size_t place;
+};
 
-/* The record at a place, for any bytes and any place: its kind, and the place behind it. Where it is accepted its payload is
- * the part from at + 4 up to next. Refusals 7, and 8 for a length below 4; their place is the place given. */
-uint8_t zaatarloft_step(const uint8_t *bytes, size_t bytes_length, size_t at, size_t *place, uint16_t *kind, size_t *next);
+/* Runs a netlist on n samples and fills m outputs, which stay as they were where it refuses. Refusals 7 to 12, 15, 16. */
+static inline struct zaatarloft_ran zaatarloft_run(const uint8_t *netlist, size_t netlist_length, const int16_t *samples,
+                                                   size_t samples_length, int64_t *outputs, size_t outputs_length)
+{
+    struct zaatarloft_ran answer;
+    answer.refusal = zaatarloft_raw_run(netlist, netlist_length, samples, samples_length, outputs, outputs_length,
+                                        &answer.place);
+    return answer;
+}
+
+struct zaatarloft_record {
+    uint8_t refusal;
+    size_t place;
+    const uint8_t *payload; /* the part of the lent bytes behind length and kind */
+    size_t payload_length;
+    uint16_t kind;
+    size_t next; /* the place behind the record */
+};
+
+/* The record at a place, for any bytes and any place. Refusals 7, and 8 for a length below 4, at the place given and with an
+ * empty payload. */
+static inline struct zaatarloft_record zaatarloft_step(const uint8_t *bytes, size_t bytes_length, size_t at)
+{
+    struct zaatarloft_record answer;
+    answer.refusal = zaatarloft_raw_step(bytes, bytes_length, at, &answer.place, &answer.kind, &answer.next);
+    answer.payload = bytes;
+    answer.payload_length = 0;
+    if (answer.refusal == 0) {
+        answer.payload = bytes + at + 4;
+        answer.payload_length = answer.next - at - 4;
+    }
+    return answer;
+}
 
 #ifdef __cplusplus
 }

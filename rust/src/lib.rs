@@ -28,31 +28,18 @@ pub struct Refusal {
     pub place: usize,
 }
 
+/// What is returned and when, a line each, as document 01 has them: `number, place | words`.
+const REFUSALS: &str = include_str!("../../include/refusals.txt");
+
 impl Refusal {
     /// Document 01's words for the number.
     pub fn words(&self) -> &'static str {
-        match self.number {
-            1 => "fewer than 6 matrix bytes",
-            2 => "length field differs from the number of bytes lent",
-            3 => "kind is not 1",
-            4 => "m or n outside 1 to 8",
-            5 => "length is not 6 + 2 times m times n",
-            6 => "output buffer shorter than the netlist",
-            7 => "under 4 bytes remain, or the length exceeds what remains",
-            8 => "kind or length not the expected one",
-            9 => {
-                "a field other than a recorded width or a total out of range, an operand not earlier than its operation, \
-                 an output symbol not below n + operations, or a zero output not as above, its width included"
-            }
-            10 => "recorded width is not the width, or the width exceeds 40",
-            11 => "totals differ from the head's count or the depth",
-            12 => "bytes left over",
-            13 => "m or n of matrix and netlist differ",
-            14 => "lowest row whose coefficients differ",
-            15 => "samples are not n",
-            16 => "outputs lent are not m",
-            _ => "no refusal of document 01",
-        }
+        let words = REFUSALS.lines().find_map(|line| {
+            let (returned, words) = line.split_once(" | ")?;
+            let (number, _) = returned.split_once(", ")?;
+            (number.parse() == Ok(self.number)).then_some(words)
+        });
+        words.unwrap_or("no refusal of document 01")
     }
 }
 
@@ -124,7 +111,7 @@ pub fn compile(matrix: &[u8], buffer: &mut [u8]) -> Result<Compiled, Refusal> {
     };
     // SAFETY: both slices are valid for their lengths, the buffer for writes, and all references are to distinct numbers.
     let number = unsafe {
-        raw::zaatarloft_compile(
+        raw::zaatarloft_raw_compile(
             matrix.as_ptr(),
             matrix.len(),
             buffer.as_mut_ptr(),
@@ -152,7 +139,7 @@ pub fn read(netlist: &[u8]) -> Result<Netlist, Refusal> {
     };
     // SAFETY: the slice is valid for its length, and all references are to distinct numbers.
     let number = unsafe {
-        raw::zaatarloft_read(
+        raw::zaatarloft_raw_read(
             netlist.as_ptr(),
             netlist.len(),
             &mut place,
@@ -170,7 +157,7 @@ pub fn check(matrix: &[u8], netlist: &[u8]) -> Result<(), Refusal> {
     let mut place = 0;
     // SAFETY: both slices are valid for their lengths.
     let number = unsafe {
-        raw::zaatarloft_check(
+        raw::zaatarloft_raw_check(
             matrix.as_ptr(),
             matrix.len(),
             netlist.as_ptr(),
@@ -183,36 +170,20 @@ pub fn check(matrix: &[u8], netlist: &[u8]) -> Result<(), Refusal> {
 
 /// Runs a netlist on n samples and fills m outputs. Refusals 7 to 12, 15 and 16, which leave the outputs as they were.
 pub fn run(netlist: &[u8], samples: &[i16], outputs: &mut [i64]) -> Result<(), Refusal> {
-    // n and m are at most 8. More samples or outputs are refused like none, so none are lent then.
-    let mut sample_bytes = [0; 16];
-    let mut output_bytes = [0; 64];
-    let sample_bytes = sample_bytes
-        .get_mut(..2 * samples.len())
-        .unwrap_or_default();
-    let output_bytes = output_bytes
-        .get_mut(..8 * outputs.len())
-        .unwrap_or_default();
-    for (bytes, sample) in sample_bytes.chunks_exact_mut(2).zip(samples) {
-        bytes.copy_from_slice(&sample.to_le_bytes());
-    }
     let mut place = 0;
     // SAFETY: all three slices are valid for their lengths, the outputs for writes, and none of them overlaps another.
     let number = unsafe {
-        raw::zaatarloft_run(
+        raw::zaatarloft_raw_run(
             netlist.as_ptr(),
             netlist.len(),
-            sample_bytes.as_ptr(),
-            sample_bytes.len(),
-            output_bytes.as_mut_ptr(),
-            output_bytes.len(),
+            samples.as_ptr(),
+            samples.len(),
+            outputs.as_mut_ptr(),
+            outputs.len(),
             &mut place,
         )
     };
-    accepted(number, place, ())?;
-    for (output, bytes) in outputs.iter_mut().zip(output_bytes.chunks_exact(8)) {
-        *output = i64::from_le_bytes(bytes.try_into().expect("8 bytes each"));
-    }
-    Ok(())
+    accepted(number, place, ())
 }
 
 /// The record at a place, for any bytes and any place. Refusals 7, and 8 for a length below 4.
@@ -222,7 +193,7 @@ pub fn step(bytes: &[u8], place: usize) -> Result<Record<'_>, Refusal> {
     let mut next = 0;
     // SAFETY: the slice is valid for its length, and all references are to distinct numbers.
     let number = unsafe {
-        raw::zaatarloft_step(
+        raw::zaatarloft_raw_step(
             bytes.as_ptr(),
             bytes.len(),
             place,

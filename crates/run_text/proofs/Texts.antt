@@ -13,7 +13,7 @@ use Rattle.reading.specs.declared.RunAnswer.{RunAnswer}
 use Rattle.reading.specs.Read.{Reading, refused, accepted, readNetlist, readAnswerOf, readAnswer}
 use Rattle.reading.specs.Run.{runAnswer, runOutputs}
 use Rattle.reading.proofs.ReadAccepts.{reads-netlist}
-use Rattle.samples.specs.Samples.{samplesOf}
+use Rattle.run_text.specs.Samples.{samplesOf}
 use Rattle.listing.specs.Listing.{refusedLine}
 use Rattle.run_text.specs.RunText.{valueLines, rowsRead, runText}
 

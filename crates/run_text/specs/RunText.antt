@@ -7,7 +7,7 @@ use lib.ListN.{length, replicate}
 use Rattle.limits.specs.Limits.{maxRows}
 use Rattle.reading.specs.Read.{readAnswer}
 use Rattle.reading.specs.Run.{runAnswer, runOutputs}
-use Rattle.samples.specs.Samples.{samplesOf}
+use Rattle.run_text.specs.Samples.{samplesOf}
 use Rattle.listing.specs.Decimal.{number}
 use Rattle.listing.specs.Listing.{ascii, refusedLine}
 use Rattle.listing.specs.Wrote.{textIn}

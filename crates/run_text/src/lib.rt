@@ -1,5 +1,7 @@
-// The text of run-bank for a netlist and the bytes of samples: one output a line, in decimal. Rests on limits, samples and listing, and on
+// The text of run-bank for a netlist and the bytes of samples: one output a line, in decimal. Rests on limits, checker and listing, and on
 // width for a number's positive and negative part.
+mod samples; // samples.rt: run, with the samples given as bytes
+
 use limits::MAX_ROWS;
 ghost use mathlib.Core.Path.{_≡_};
 ghost use Prim.Native.Nat.{_*_, _-_, _≤_};

@@ -1,8 +1,10 @@
 //! The functions under the wrappers, as C calls them: what the wrappers hide. Every number of an answer is written, all are 0
-//! where it is a refusal, and run takes any numbers of bytes.
+//! where it is a refusal.
 
 use cases::{any_matrix, any_netlist, damage, damage_matrix, each, Met};
-use zaatarloft::raw::{zaatarloft_compile, zaatarloft_read, zaatarloft_run, zaatarloft_step};
+use zaatarloft::raw::{
+    zaatarloft_raw_compile, zaatarloft_raw_read, zaatarloft_raw_run, zaatarloft_raw_step,
+};
 
 /// Number and place of an answer.
 fn outcome<T>(answer: &Result<T, reference::Refusal>) -> (u8, usize) {
@@ -25,7 +27,7 @@ fn numbers_of_compile() {
         let [operations, plain, divisors, replacements, depth] = &mut counts;
         // SAFETY: all slices are valid for their lengths and distinct, as are the numbers.
         let number = unsafe {
-            zaatarloft_compile(
+            zaatarloft_raw_compile(
                 record.as_ptr(),
                 record.len(),
                 buffer.as_mut_ptr(),
@@ -62,7 +64,7 @@ fn numbers_of_read_and_step() {
         let (mut place, mut m, mut n, mut operations, mut depth) = (77, 77, 77, 77, 77);
         // SAFETY: the slice is valid for its length, and the numbers are distinct.
         let number = unsafe {
-            zaatarloft_read(
+            zaatarloft_raw_read(
                 netlist.as_ptr(),
                 netlist.len(),
                 &mut place,
@@ -82,8 +84,9 @@ fn numbers_of_read_and_step() {
         let (mut place, mut kind, mut next) = (77, 77, 77);
         let bytes = netlist.as_ptr();
         // SAFETY: the slice is valid for its length, and the numbers are distinct.
-        let number =
-            unsafe { zaatarloft_step(bytes, netlist.len(), at, &mut place, &mut kind, &mut next) };
+        let number = unsafe {
+            zaatarloft_raw_step(bytes, netlist.len(), at, &mut place, &mut kind, &mut next)
+        };
         stepped.count(number);
         let expected = reference::step(&netlist, at);
         assert_eq!((number, place), outcome(&expected));
@@ -93,9 +96,9 @@ fn numbers_of_read_and_step() {
     stepped.assert_exactly("step", &[0, 7, 8], 100);
 }
 
-/// Samples of an odd number of bytes count as none, and so do outputs of bytes that are no multiple of 8.
+/// Run takes any numbers of samples and outputs, also more than any netlist has.
 #[test]
-fn run_on_bytes() {
+fn numbers_of_run() {
     let mut met = Met::default();
     each(13_000_000, 20_000, |random| {
         let (m, n) = (random.between(1, 8), random.between(1, 8));
@@ -105,15 +108,15 @@ fn run_on_bytes() {
             0 => damage(random, &right, &right),
             _ => right,
         };
-        let count = random.choose(&[2 * n, 2 * n, 2 * n, 2 * n + 1, 2 * n - 1, 0, 17, 100]);
-        let samples = random.bytes(count);
-        let count = random.choose(&[8 * m, 8 * m, 8 * m, 8 * m + 1, 8 * m - 1, 0, 72, 100]);
-        let old = random.bytes(count);
+        let count = random.choose(&[n, n, n, n + 1, n - 1, 0, 9, 100]);
+        let samples: Vec<i16> = (0..count).map(|_| random.sample()).collect();
+        let count = random.choose(&[m, m, m, m + 1, m - 1, 0, 9, 100]);
+        let old: Vec<i64> = (0..count).map(|_| random.number() as i64).collect();
         let mut outputs = old.clone();
         let mut place = 77;
         // SAFETY: all slices are valid for their lengths and distinct.
         let number = unsafe {
-            zaatarloft_run(
+            zaatarloft_raw_run(
                 netlist.as_ptr(),
                 netlist.len(),
                 samples.as_ptr(),
@@ -124,20 +127,10 @@ fn run_on_bytes() {
             )
         };
         met.count(number);
-        let sample = |pair: &[u8]| i16::from_le_bytes([pair[0], pair[1]]);
-        let lent_samples = if samples.len() % 2 == 0 {
-            &samples[..]
-        } else {
-            &[]
-        };
-        let lent_samples: Vec<i16> = lent_samples.chunks_exact(2).map(sample).collect();
-        let lent_outputs = if old.len() % 8 == 0 { old.len() / 8 } else { 0 };
-        let mut values = vec![0; lent_outputs];
-        let expected = reference::run(&netlist, &lent_samples, &mut values);
+        let mut values = old;
+        let expected = reference::run(&netlist, &samples, &mut values);
         assert_eq!((number, place), outcome(&expected));
-        let bytes = values.iter().flat_map(|value: &i64| value.to_le_bytes());
-        let expected = expected.map_or(old, |()| bytes.collect());
-        assert_eq!(outputs, expected);
+        assert_eq!(outputs, values);
     });
     met.assert_exactly("run", &[0, 7, 8, 9, 10, 11, 12, 15, 16], 100);
 }

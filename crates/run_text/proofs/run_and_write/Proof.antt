@@ -6,7 +6,7 @@ use native.Mathlib.Omega.{arith}
 use lib.IntN.{ℤ, pos}
 use lib.ListN.{length, replicate, length-replicate}
 use Rattle.reading.specs.Run.{runAnswer, runOutputs}
-use Rattle.samples.specs.Samples.{samplesOf}
+use Rattle.run_text.specs.Samples.{samplesOf}
 use Rattle.listing.proofs.Wrote.{wrote-as}
 use Rattle.run_text.specs.RunText.{valueLines, rowsRead}
 use Rattle.run_text.proofs.Texts.{text-refused, text-accepted}

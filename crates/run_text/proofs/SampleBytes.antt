@@ -1,0 +1,73 @@
+-- The samples that bytes hold. Run refuses every number of samples but n alike, and n is at most the most columns: so it makes no
+-- difference which samples it is lent where there are more.
+-- Assumes nothing.
+use Prim.Native.Nat.{ℕ, suc, _*_, _/_, _%_, _≤_, _<_}
+use mathlib.Core.Path.{_≡_, refl, sym, ap₂, _∙_}
+use mathlib.Core.Bool.{Bool, true, false}
+use mathlib.Core.List.{List, [], _∷_, _++_}
+use native.Mathlib.Omega.{arith}
+use lib.Dec.{eqb}
+use lib.IntN.{ℤ}
+use lib.ListN.{length, set, take}
+use lib.Seq.{take-suc-set}
+use borrow.Author.Tests.{eq-eqb, ne-eqb, eqb-true, eqb-false}
+use Rattle.limits.specs.Limits.{maxColumns}
+use Rattle.layout.specs.Records.{Netlist}
+use Rattle.layout.specs.Places.{firstRecords}
+use Rattle.layout.proofs.LittleEndian.{AreBytes}
+use Rattle.layout.proofs.FirstRecords.{length-first}
+use Rattle.width.specs.Netlist.{HeadLimits}
+use Rattle.reading.specs.Read.{Reading, refused, accepted, readNetlist}
+use Rattle.reading.specs.Run.{runAnswer, runOutputs}
+use Rattle.reading.specs.Exact.{readLimits}
+use Rattle.reading.proofs.ReadAccepts.{reads-netlist}
+use Rattle.checker.proofs.BoardLaws.{samples-differ}
+use Rattle.run_text.specs.Samples.{sampleAt, firstSamples, sampleCount, samplesOf}
+
+module _ (bytes : List ℕ) where
+  pub count-of-odd : length bytes % 2 ≡ 1 → suc maxColumns ≡ sampleCount bytes
+  unfolding sampleCount
+  count-of-odd h = rw (ne-eqb (length bytes % 2) 0 (λ z. omega arith))
+
+  pub count-of-even : (length bytes % 2 ≡ 1 → ⊥) → length bytes / 2 ≡ sampleCount bytes
+  unfolding sampleCount
+  count-of-even h = rw (eq-eqb (length bytes % 2) 0 (omega arith))
+
+  -- as many as a netlist takes are all there
+  pub samples-there : (count : ℕ) → count ≡ sampleCount bytes → count ≤ maxColumns → 2 * count ≤ length bytes
+  samples-there count is few = go (eqb (length bytes % 2) 1) refl
+    where
+      go : (odd : Bool) → eqb (length bytes % 2) 1 ≡ odd → 2 * count ≤ length bytes
+      go true e = absurd (omega (arith, count-of-odd (eqb-true (length bytes % 2) 1 e)))
+      go false e = omega (arith, count-of-even (eqb-false (length bytes % 2) 1 e))
+
+  pub length-samples : length (samplesOf bytes) ≡ sampleCount bytes
+  length-samples = length-first (sampleAt bytes) (sampleCount bytes)
+
+  -- one sample more
+  pub next-sample : (samples : List ℤ) (i : ℕ) (z : ℤ) → i < length samples → z ≡ sampleAt bytes i → take i samples ≡ firstSamples bytes i
+      → take (suc i) (set samples i z) ≡ firstSamples bytes (suc i)
+  unfolding firstRecords
+  next-sample samples i z h e t = take-suc-set samples i z h ∙ ap₂ (λ (l : List ℤ) (y : ℤ). l ++ (y ∷ [])) t e
+
+-- run answers and leaves the same for both
+abbrev pub Alike : List ℕ → List ℤ → List ℤ → List ℤ → Type 0
+Alike b outputs xs ys =
+    (runAnswer b (length xs) (length outputs) ≡ runAnswer b (length ys) (length outputs)) × (runOutputs b xs outputs ≡ runOutputs b ys outputs)
+
+module _ (b : List ℕ) (outputs xs ys : List ℤ) where
+  alike-refused : (r place : ℕ) → readNetlist b ≡ refused r place → Alike b outputs xs ys
+  unfolding runAnswer runOutputs
+  alike-refused r place e = (rw (e, runAnswer), rw (e, runOutputs))
+
+  -- both more than any netlist takes
+  pub many-alike : AreBytes b → maxColumns < length xs → maxColumns < length ys → Alike b outputs xs ys
+  many-alike all x y = go (readNetlist b) refl
+    where
+      go : (z : Reading Netlist) → readNetlist b ≡ z → Alike b outputs xs ys
+      go (refused r place) e = alike-refused r place e
+      go (accepted net) e =
+          let limits : HeadLimits readLimits (net .head) = reads-netlist b all net .0 e .netlist .head in
+          let first = samples-differ b xs outputs net e (λ n. omega arith) in
+          let second = samples-differ b ys outputs net e (λ n. omega arith) in
+          (sym (first .0) ∙ second .0, sym (first .1) ∙ second .1)

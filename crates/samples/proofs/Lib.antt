@@ -1,3 +1,0 @@
--- Theorems about samples given as bytes, lowest first.
-pub mod Samples
-pub mod OtherCounts

@@ -1,0 +1,102 @@
+// Document 01's five calls for hosts in C and Rust, over numbers and slices of numbers alone. Rests on compiler, checker and layout.
+// Each function returns the refusal's number, 0 where it accepts, and writes the other numbers of the answer through the references.
+// The names say raw: include/zaatarloft.h and rust/src/lib.rs have calls over them that give an answer as one struct.
+ghost use mathlib.Core.Path.{_≡_};
+ghost use lib.ListN.{length};
+ghost use Rattle.compilation.specs.Compile.{compileAnswer, compileBuffer};
+ghost use Rattle.reading.specs.Read.{readAnswer};
+ghost use Rattle.reading.specs.Check.{checkAnswer};
+ghost use Rattle.reading.specs.Run.{runAnswer, runOutputs};
+ghost use Rattle.layout.specs.Step.{stepNumbers};
+
+// Compile: from a matrix record to its netlist, at the start of the lent buffer.
+#[no_mangle]
+pub extern "C" fn zaatarloft_raw_compile(
+    matrix: &[u8],
+    buffer: &mut [u8],
+    place: &mut usize,
+    written: &mut usize,
+    operations: &mut u16,
+    plain: &mut u16,
+    divisors: &mut u16,
+    replacements: &mut u16,
+    depth: &mut u16,
+) -> u8
+    ensures { λ r. ⌜ record { refusal = r; place = now (place .exit); written = now (written .exit); operations = now (operations .exit); plain = now (plain .exit); divisors = now (divisors .exit); replacements = now (replacements .exit); depth = now (depth .exit) } ≡ compileAnswer (now (matrix .entry)) (length (now (buffer .entry))) ⌝ }
+    ensures { λ _. ⌜ now (buffer .exit) ≡ compileBuffer (now (matrix .entry)) (now (buffer .entry)) ⌝ }
+{
+    let compiled = compiler::compile(matrix, buffer);
+    *place = compiled.place;
+    *written = compiled.written;
+    *operations = compiled.operations;
+    *plain = compiled.plain;
+    *divisors = compiled.divisors;
+    *replacements = compiled.replacements;
+    *depth = compiled.depth;
+    compiled.refusal
+}
+
+// Read: m, n, operations and depth of a netlist.
+#[no_mangle]
+pub extern "C" fn zaatarloft_raw_read(
+    netlist: &[u8],
+    place: &mut usize,
+    m: &mut u8,
+    n: &mut u8,
+    operations: &mut u16,
+    depth: &mut u16,
+) -> u8
+    ensures { λ r. ⌜ record { refusal = r; place = now (place .exit); m = now (m .exit); n = now (n .exit); operations = now (operations .exit); depth = now (depth .exit) } ≡ readAnswer (now (netlist .entry)) ⌝ }
+{
+    let reading = checker::read::read(netlist);
+    *place = reading.place;
+    *m = reading.m;
+    *n = reading.n;
+    *operations = reading.operations;
+    *depth = reading.depth;
+    reading.refusal
+}
+
+// Check: whether a netlist computes a matrix.
+#[no_mangle]
+pub extern "C" fn zaatarloft_raw_check(matrix: &[u8], netlist: &[u8], place: &mut usize) -> u8
+    ensures { λ r. ⌜ record { refusal = r; place = now (place .exit) } ≡ checkAnswer (now (matrix .entry)) (now (netlist .entry)) ⌝ }
+{
+    let checked = checker::check::check(matrix, netlist);
+    *place = checked.place;
+    checked.refusal
+}
+
+// Run: a netlist on samples, into the lent outputs.
+#[no_mangle]
+pub extern "C" fn zaatarloft_raw_run(
+    netlist: &[u8],
+    samples: &[i16],
+    outputs: &mut [i64],
+    place: &mut usize,
+) -> u8
+    ensures { λ r. ⌜ record { refusal = r; place = now (place .exit) } ≡ runAnswer (now (netlist .entry)) (length (now (samples .entry))) (length (now (outputs .entry))) ⌝ }
+    ensures { λ _. ⌜ now (outputs .exit) ≡ runOutputs (now (netlist .entry)) (now (samples .entry)) (now (outputs .entry)) ⌝ }
+{
+    let ran = checker::run::run(netlist, samples, outputs);
+    *place = ran.place;
+    ran.refusal
+}
+
+// Step: the numbers of the step over the record at a place. An accepted record's payload starts 4 bytes behind that place and ends at the next.
+#[no_mangle]
+pub extern "C" fn zaatarloft_raw_step(
+    bytes: &[u8],
+    at: usize,
+    place: &mut usize,
+    kind: &mut u16,
+    next: &mut usize,
+) -> u8
+    ensures { λ r. ⌜ record { refusal = r; place = now (place .exit); kind = now (kind .exit); next = now (next .exit) } ≡ stepNumbers (now (bytes .entry)) at ⌝ }
+{
+    let numbers = layout::step::step_numbers(bytes, at);
+    *place = numbers.place;
+    *kind = numbers.kind;
+    *next = numbers.next;
+    numbers.refusal
+}
