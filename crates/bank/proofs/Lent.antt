@@ -8,10 +8,10 @@ use native.Mathlib.Omega.{arith}
 use lib.Dec.{ltb}
 use lib.ListN.{length, drop, length-append}
 use borrow.Author.Tests.{ltb-true, ltb-false}
-use Rattle.layout.specs.Matrix.{matrixRefusal}
-use Rattle.compilation.specs.declared.CompileAnswer.{CompileAnswer}
-use Rattle.compilation.specs.Compile.{compiledBytes, compileAnswer, compileBuffer}
-use Rattle.compilation.proofs.Compiled.{answer-refused, answer-short, answer-accepted, buffer-accepted}
+use Rattle.layout_rules.specs.Matrix.{matrixRefusal}
+use Rattle.compile_rules.specs.declared.CompileAnswer.{CompileAnswer}
+use Rattle.compile_rules.specs.Compile.{compiledBytes, compileAnswer, compileBuffer}
+use Rattle.compile_rules.proofs.Compiled.{answer-refused, answer-short, answer-accepted, buffer-accepted}
 
 pub written-within : (matrixBytes buffer : List ℕ) → compileAnswer matrixBytes (length buffer) .written ≤ length (compileBuffer matrixBytes buffer)
 written-within matrixBytes buffer = by-refusal (matrixRefusal matrixBytes) refl

@@ -1,17 +1,9 @@
-// Demand 3: one claim about compile, read and run together. Rests on compiler and checker, which are joined here by their contracts alone.
-use compilation::CompileAnswer;
-use reading::ReadAnswer;
-use reading::RunAnswer;
+// Demand 3: compile, read and run, called one after another, with the claim of `bank_rules` as the promise. Rests on `compile`,
+// `netlist_read` and `netlist_run`, which are joined here by their contracts alone.
+use bank_rules::Answers;
 ghost use mathlib.Core.Path.{_≡_};
-ghost use Rattle.compilation.specs.Compile.{compileBuffer};
-ghost use Rattle.bank.specs.Claim.{Given, Claim, answersOf, outputsAfter};
-
-// What the three calls return, each lent what the one before it wrote.
-pub struct Answers {
-    pub compile: CompileAnswer,
-    pub read: ReadAnswer,
-    pub run: RunAnswer,
-}
+ghost use Rattle.compile_rules.specs.Compile.{compileBuffer};
+ghost use Rattle.bank_rules.specs.Claim.{Given, Claim, answersOf, outputsAfter};
 
 // Compile, then read and run on the part that compile wrote.
 pub fn compile_read_run(
@@ -25,10 +17,10 @@ pub fn compile_read_run(
     ensures { λ r. ⌜ now (outputs .exit) ≡ outputsAfter (now (matrix .entry)) (now (buffer .entry)) (now (samples .entry)) (now (outputs .entry)) ⌝ }
     ensures { λ r. ⌜ (Given (now (matrix .entry)) (now (buffer .entry)) (now (samples .entry)) (now (outputs .entry)) → Claim (now (matrix .entry)) (now (buffer .exit)) (now (samples .entry)) (now (outputs .exit)) r) ⌝ }
 {
-    let compile = compiler::compile(matrix, buffer);
+    let compile = compile::compile(matrix, buffer);
     let written = compile.written;
     let bytes = &buffer[..written];
-    let read = checker::read::read(bytes);
-    let run = checker::run::run(bytes, samples, outputs);
+    let read = netlist_read::read(bytes);
+    let run = netlist_run::run(bytes, samples, outputs);
     Answers { compile, read, run }
 }

@@ -2,17 +2,17 @@
 -- Assumes nothing.
 use mathlib.Core.Path.{refl}
 use mathlib.Core.Bool.{xor}
-use Rattle.elimination.specs.Rows.{matrixRows, plainCount}
-use Rattle.elimination.specs.Elimination.{matrixElimination}
-use Rattle.layout.specs.Matrix.{matrixRefusal, matrix, rowsFrom, coefficientsFrom, coefficientAt, signedWord}
-use Rattle.width.specs.Machine.{entryForm, outputForm, depth}
-use Rattle.width.specs.Width.{width}
-use Rattle.compilation.specs.Chains.{signField, chainFrom, chain, chains, rowOutput, rowOutputs}
-use Rattle.compilation.specs.Compile.{operationsOf, outputsOf, withWidths, netlistOf}
-use Rattle.compilation.proofs.Marked.{marked-banks}
-use Rattle.listing.specs.Decimal.{decimal, number}
-use Rattle.listing.specs.Listing.{countsLine, operationLine, valueText, lines}
-use Rattle.listing.proofs.Marked.{marked}
+use Rattle.elimination_rules.specs.Rows.{matrixRows, plainCount}
+use Rattle.elimination_rules.specs.Elimination.{matrixElimination}
+use Rattle.layout_rules.specs.Matrix.{matrixRefusal, matrix, rowsFrom, coefficientsFrom, coefficientAt, signedWord}
+use Rattle.board_rules.specs.Machine.{entryForm, outputForm, depth}
+use Rattle.board_rules.specs.Width.{width}
+use Rattle.compile_rules.specs.Chains.{signField, chainFrom, chain, chains, rowOutput, rowOutputs}
+use Rattle.compile_rules.specs.Compile.{operationsOf, outputsOf, withWidths, netlistOf}
+use Rattle.compile_rules.proofs.Marked.{marked-banks}
+use Rattle.text.specs.Decimal.{decimal, number}
+use Rattle.listing_rules.specs.Listing.{countsLine, operationLine, valueText, lines}
+use Rattle.listing_rules.proofs.Marked.{marked}
 use Rattle.bank_text.specs.BankText.{bankText}
 use Rattle.bank_text.specs.Marked.{MarkedTable}
 

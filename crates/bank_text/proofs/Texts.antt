@@ -6,18 +6,19 @@ use mathlib.Core.List.{List, _++_}
 use native.Mathlib.Omega.{arith}
 use lib.ListN.{length, getD, drop, length-append}
 use Rattle.limits.specs.Limits.{maxOperations}
-use Rattle.layout.specs.Matrix.{matrixRefusal, rows}
-use Rattle.layout.specs.Records.{headLength}
-use Rattle.layout.specs.Places.{outputPlace, enoughBytes}
-use Rattle.layout.proofs.LittleEndian.{AreBytes}
-use Rattle.layout.proofs.MatrixRefusal.{AcceptedMatrix, accepted-matrix}
-use Rattle.compilation.specs.declared.CompileAnswer.{CompileAnswer}
-use Rattle.compilation.specs.Compile.{netlistOf, compileAnswer, compileBuffer, compileAccepted, compiledBytes, compiledNetlist}
-use Rattle.compilation.proofs.Compiled.{answer-refused, enough-room, buffer-accepted, compiled-answer, compiled-is, compiled-length, compiled-operations}
-use Rattle.listing.specs.declared.Counts.{Counts}
-use Rattle.listing.specs.Listing.{listing, refusedLine}
-use Rattle.listing.specs.Records.{listingOf}
-use Rattle.listing.proofs.Records.{listing-of-netlist}
+use Rattle.layout_rules.specs.Matrix.{matrixRefusal, rows}
+use Rattle.layout_rules.specs.Records.{headLength}
+use Rattle.layout_rules.specs.Places.{outputPlace, enoughBytes}
+use Rattle.layout_rules.proofs.LittleEndian.{AreBytes}
+use Rattle.layout_rules.proofs.MatrixRefusal.{AcceptedMatrix, accepted-matrix}
+use Rattle.compile_rules.specs.declared.CompileAnswer.{CompileAnswer}
+use Rattle.compile_rules.specs.Compile.{netlistOf, compileAnswer, compileBuffer, compileAccepted, compiledBytes, compiledNetlist}
+use Rattle.compile_rules.proofs.Compiled.{answer-refused, enough-room, buffer-accepted, compiled-answer, compiled-is, compiled-length, compiled-operations}
+use Rattle.listing_rules.specs.declared.Counts.{Counts}
+use Rattle.listing_rules.specs.Listing.{listing}
+use Rattle.text.specs.Text.{refusedLine}
+use Rattle.listing_rules.specs.Records.{listingOf}
+use Rattle.listing_rules.proofs.Records.{listing-of-netlist}
 use Rattle.bank_text.specs.BankText.{countsOf, bankText}
 
 -- the counts that an answer and the matrix's m and n give

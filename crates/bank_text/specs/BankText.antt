@@ -3,12 +3,13 @@
 use Prim.Native.Nat.{ℕ, zero, suc}
 use mathlib.Core.List.{List}
 use Rattle.limits.specs.Limits.{maxRows, maxOperations}
-use Rattle.layout.specs.Matrix.{matrixRefusal, rows, columns}
-use Rattle.compilation.specs.Compile.{compileAccepted, compiledNetlist}
-use Rattle.listing.specs.declared.Counts.{Counts}
-use Rattle.listing.specs.Listing.{listing, refusedLine}
-use Rattle.listing.specs.Records.{room}
-use Rattle.listing.specs.Wrote.{textIn}
+use Rattle.layout_rules.specs.Matrix.{matrixRefusal, rows, columns}
+use Rattle.compile_rules.specs.Compile.{compileAccepted, compiledNetlist}
+use Rattle.listing_rules.specs.declared.Counts.{Counts}
+use Rattle.listing_rules.specs.Listing.{listing}
+use Rattle.text.specs.Text.{refusedLine}
+use Rattle.listing_rules.specs.Records.{room}
+use Rattle.text.specs.Wrote.{textIn}
 
 -- the first line's numbers: the matrix's, and those that compile reports
 abbrev pub countsOf : List ℕ → Counts

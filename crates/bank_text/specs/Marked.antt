@@ -1,10 +1,10 @@
--- Document 01, "Marked banks", as one table: the banks of `compiler`, and what list-bank prints for row 3, −3.
+-- Document 01, "Marked banks", as one table: the banks of `compile_rules`, and what list-bank prints for row 3, −3.
 -- Assumes nothing.
 use mathlib.Core.Path.{_≡_}
 use mathlib.Core.List.{[]}
-use Rattle.compilation.specs.Marked.{MarkedBanks, threeMinusThreeRecord}
-use Rattle.listing.specs.Listing.{ascii}
-use Rattle.listing.specs.Marked.{MarkedListing}
+use Rattle.compile_rules.specs.Marked.{MarkedBanks, threeMinusThreeRecord}
+use Rattle.text.specs.Text.{ascii}
+use Rattle.listing_rules.specs.Marked.{MarkedListing}
 use Rattle.bank_text.specs.BankText.{bankText}
 
 pub record MarkedTable : Type 0 where

@@ -1,16 +1,17 @@
-// Document 01, "Marked banks": the text of list-bank for a matrix record. Rests on limits, layout, compiler and listing.
-use layout::places::ENOUGH_BYTES;
+// Document 01, "Marked banks": the text of list-bank for a matrix record. Rests on `limits`,
+// `layout_records`, `compile` and `listing`.
+use layout_records::places::ENOUGH_BYTES;
 use limits::MAX_OPERATIONS;
 use limits::MAX_ROWS;
-use listing::Counts;
-use listing::LONGEST_COUNTS_LINE;
-use listing::LONGEST_OPERATION_LINE;
-use listing::LONGEST_OUTPUT_LINE;
+use listing_rules::Counts;
+use listing_rules::LONGEST_COUNTS_LINE;
+use listing_rules::LONGEST_OPERATION_LINE;
+use listing_rules::LONGEST_OUTPUT_LINE;
 ghost use mathlib.Core.Path.{_≡_};
 ghost use Prim.Native.Nat.{_≤_};
 ghost use lib.ListN.{length};
-ghost use Rattle.layout.specs.Places.{enoughBytes};
-ghost use Rattle.listing.specs.Wrote.{Wrote};
+ghost use Rattle.layout_rules.specs.Places.{enoughBytes};
+ghost use Rattle.text.specs.Wrote.{Wrote};
 ghost use Rattle.bank_text.specs.BankText.{bankText, longestBankText, bankTextIn};
 
 // The longest text: that of the most operations and rows.
@@ -30,9 +31,9 @@ fn write_text(matrix: &[u8], text: &mut [u8]) -> usize
     ensures { λ r. ⌜ r ≤ longestBankText ⌝ }
 {
     let mut netlist = no_netlist();
-    let answer = compiler::compile(matrix, &mut netlist);
+    let answer = compile::compile(matrix, &mut netlist);
     if answer.refusal != 0 {
-        return listing::write_refused(answer.refusal, answer.place, text);
+        return text::write_refused(answer.refusal, answer.place, text);
     }
     let counts = Counts {
         inputs: matrix[5] as u16,

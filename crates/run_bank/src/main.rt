@@ -2,7 +2,7 @@
 // netlist's length (2 bytes, little-endian), the netlist, then the samples (2 bytes each, little-endian two's complement).
 // Where the input ends early, a missing byte of the length counts as 0, the netlist is what there is of it, and the samples likewise.
 // No netlist takes more samples than MAX_COLUMNS, so of longer input the bytes of one sample more have the same answer.
-use layout::little_endian::word_at;
+use layout_records::little_endian::word_at;
 use libc::STDIN_FILENO;
 use libc::STDOUT_FILENO;
 use limits::MAX_COLUMNS;

@@ -2,16 +2,16 @@
 -- Assumes nothing.
 use mathlib.Core.Path.{refl}
 use mathlib.Core.List.{flatMap}
-use Rattle.layout.specs.Matrix.{signedWord}
-use Rattle.layout.specs.Records.{headPayload, operationPayload, outputPayload, totalsPayload, netlistBytes, headOf, operationOf, outputOf, totalsOf}
-use Rattle.layout.specs.Step.{stepRefusal}
-use Rattle.width.specs.Machine.{machine, entryForm, outputForm, depth}
-use Rattle.width.specs.Width.{width}
-use Rattle.reading.specs.Read.{recordRefusal, headRefusal, operationRefusal, outputRefusal, totalsRefusal, readRecords, readNetlist, readAnswer}
-use Rattle.reading.specs.Run.{countsAnswer, runAnswer, runOutputs}
-use Rattle.layout.specs.Places.{firstRecords}
+use Rattle.layout_rules.specs.Matrix.{signedWord}
+use Rattle.layout_rules.specs.Records.{headPayload, operationPayload, outputPayload, totalsPayload, netlistBytes, headOf, operationOf, outputOf, totalsOf}
+use Rattle.layout_rules.specs.Step.{stepRefusal}
+use Rattle.board_rules.specs.Machine.{machine, entryForm, outputForm, depth}
+use Rattle.board_rules.specs.Width.{width}
+use Rattle.netlist_rules.specs.Read.{recordRefusal, headRefusal, operationRefusal, outputRefusal, totalsRefusal, readRecords, readNetlist, readAnswer}
+use Rattle.netlist_rules.specs.Run.{countsAnswer, runAnswer, runOutputs}
+use Rattle.layout_rules.specs.Places.{firstRecords}
 use Rattle.run_text.specs.Samples.{sampleCount}
-use Rattle.listing.specs.Decimal.{decimal, number}
+use Rattle.text.specs.Decimal.{decimal, number}
 use Rattle.run_text.specs.RunText.{runText}
 use Rattle.run_text.specs.Examples.{RunExamples}
 

@@ -12,16 +12,16 @@ use lib.ListN.{length, set, take}
 use lib.Seq.{take-suc-set}
 use borrow.Author.Tests.{eq-eqb, ne-eqb, eqb-true, eqb-false}
 use Rattle.limits.specs.Limits.{maxColumns}
-use Rattle.layout.specs.Records.{Netlist}
-use Rattle.layout.specs.Places.{firstRecords}
-use Rattle.layout.proofs.LittleEndian.{AreBytes}
-use Rattle.layout.proofs.FirstRecords.{length-first}
-use Rattle.width.specs.Netlist.{HeadLimits}
-use Rattle.reading.specs.Read.{Reading, refused, accepted, readNetlist}
-use Rattle.reading.specs.Run.{runAnswer, runOutputs}
-use Rattle.reading.specs.Exact.{readLimits}
-use Rattle.reading.proofs.ReadAccepts.{reads-netlist}
-use Rattle.checker.proofs.BoardLaws.{samples-differ}
+use Rattle.layout_rules.specs.Records.{Netlist}
+use Rattle.layout_rules.specs.Places.{firstRecords}
+use Rattle.layout_rules.proofs.LittleEndian.{AreBytes}
+use Rattle.layout_rules.proofs.FirstRecords.{length-first}
+use Rattle.board_rules.specs.Netlist.{HeadLimits}
+use Rattle.netlist_rules.specs.Read.{Reading, refused, accepted, readNetlist}
+use Rattle.netlist_rules.specs.Run.{runAnswer, runOutputs}
+use Rattle.netlist_rules.specs.Exact.{readLimits}
+use Rattle.netlist_rules.proofs.ReadAccepts.{reads-netlist}
+use Rattle.netlist_run.proofs.BoardLaws.{samples-differ}
 use Rattle.run_text.specs.Samples.{sampleAt, firstSamples, sampleCount, samplesOf}
 
 module _ (bytes : List ℕ) where

@@ -11,11 +11,11 @@ use lib.Signed.{_≤ℤ_, _<ℤ_}
 use mir.Syntax.{w64}
 use mir.Val.{SFits}
 use Rattle.integers.proofs.Expression.{nat, below-parts}
-use Rattle.width.specs.Width.{positivePart, negativePart}
-use Rattle.reading.proofs.ReadAccepts.{flat-snoc}
-use Rattle.listing.specs.Decimal.{number}
-use Rattle.listing.specs.Listing.{ascii}
-use Rattle.listing.proofs.Decimal.{length-number}
+use Rattle.board_rules.specs.Width.{positivePart, negativePart}
+use Rattle.netlist_rules.proofs.ReadAccepts.{flat-snoc}
+use Rattle.text.specs.Decimal.{number}
+use Rattle.text.specs.Text.{ascii}
+use Rattle.text.proofs.Decimal.{length-number}
 use Rattle.run_text.specs.RunText.{signedNumber, valueLine, valueLines}
 
 pub signed-positive : (z : ℤ) → pos 0 ≤ℤ z → number (positivePart z) ≡ signedNumber z

@@ -7,14 +7,14 @@ use native.Mathlib.Omega.{arith}
 use lib.IntN.{ℤ, pos}
 use lib.ListN.{length, replicate}
 use Rattle.limits.specs.Limits.{maxRows}
-use Rattle.layout.specs.Records.{Netlist}
-use Rattle.layout.proofs.LittleEndian.{AreBytes}
-use Rattle.reading.specs.declared.RunAnswer.{RunAnswer}
-use Rattle.reading.specs.Read.{Reading, refused, accepted, readNetlist, readAnswerOf, readAnswer}
-use Rattle.reading.specs.Run.{runAnswer, runOutputs}
-use Rattle.reading.proofs.ReadAccepts.{reads-netlist}
+use Rattle.layout_rules.specs.Records.{Netlist}
+use Rattle.layout_rules.proofs.LittleEndian.{AreBytes}
+use Rattle.netlist_rules.specs.declared.RunAnswer.{RunAnswer}
+use Rattle.netlist_rules.specs.Read.{Reading, refused, accepted, readNetlist, readAnswerOf, readAnswer}
+use Rattle.netlist_rules.specs.Run.{runAnswer, runOutputs}
+use Rattle.netlist_rules.proofs.ReadAccepts.{reads-netlist}
 use Rattle.run_text.specs.Samples.{samplesOf}
-use Rattle.listing.specs.Listing.{refusedLine}
+use Rattle.text.specs.Text.{refusedLine}
 use Rattle.run_text.specs.RunText.{valueLines, rowsRead, runText}
 
 -- read says that there are no more rows than the most

@@ -3,9 +3,9 @@
 use Prim.Native.Nat.{ℕ}
 use mathlib.Core.Path.{_≡_}
 use mathlib.Core.List.{List, [], _∷_}
-use Rattle.layout.specs.Records.{netlistBytes}
-use Rattle.listing.specs.Listing.{ascii}
-use Rattle.listing.specs.Marked.{operations, outputs}
+use Rattle.layout_rules.specs.Records.{netlistBytes}
+use Rattle.text.specs.Text.{ascii}
+use Rattle.listing_rules.specs.Marked.{operations, outputs}
 use Rattle.run_text.specs.RunText.{runText}
 
 -- document 01's netlist for row 3, −3

@@ -5,12 +5,12 @@ use mathlib.Core.List.{List, _++_, flatMap}
 use lib.IntN.{ℤ, pos, negsuc}
 use lib.ListN.{length, replicate}
 use Rattle.limits.specs.Limits.{maxRows}
-use Rattle.reading.specs.Read.{readAnswer}
-use Rattle.reading.specs.Run.{runAnswer, runOutputs}
+use Rattle.netlist_rules.specs.Read.{readAnswer}
+use Rattle.netlist_rules.specs.Run.{runAnswer, runOutputs}
 use Rattle.run_text.specs.Samples.{samplesOf}
-use Rattle.listing.specs.Decimal.{number}
-use Rattle.listing.specs.Listing.{ascii, refusedLine}
-use Rattle.listing.specs.Wrote.{textIn}
+use Rattle.text.specs.Decimal.{number}
+use Rattle.text.specs.Text.{ascii, refusedLine}
+use Rattle.text.specs.Wrote.{textIn}
 
 -- a whole number in decimal; −1 − k is negative, and its distance from 0 is k + 1
 abbrev pub signedNumber : ℤ → List ℕ

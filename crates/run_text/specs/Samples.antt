@@ -7,9 +7,9 @@ use lib.Dec.{eqb}
 use lib.IntN.{ℤ}
 use lib.ListN.{length}
 use Rattle.limits.specs.Limits.{maxColumns}
-use Rattle.layout.specs.Bytes.{word}
-use Rattle.layout.specs.Matrix.{signedWord}
-use Rattle.layout.specs.Places.{firstRecords}
+use Rattle.layout_rules.specs.Bytes.{word}
+use Rattle.layout_rules.specs.Matrix.{signedWord}
+use Rattle.layout_rules.specs.Places.{firstRecords}
 
 -- the sample of an index
 abbrev pub sampleAt : List ℕ → ℕ → ℤ

@@ -8,7 +8,7 @@ ghost use Prim.Native.Nat.{_*_, _-_, _≤_};
 ghost use lib.IntN.{pos};
 ghost use lib.ListN.{length, replicate};
 ghost use Rattle.limits.specs.Limits.{maxRows};
-ghost use Rattle.listing.specs.Wrote.{Wrote};
+ghost use Rattle.text.specs.Wrote.{Wrote};
 ghost use Rattle.run_text.specs.RunText.{signedNumber, longestLine, longestRunText, valueLine, valueLines, rowsRead, runText, runTextIn};
 
 // The longest line: a sign, 19 digits and a line feed.
@@ -25,9 +25,9 @@ fn write_signed(value: i64, text: &mut [u8]) -> usize
 {
     if value < 0 {
         let at = bytes::copy(b"-", text);
-        return at + listing::write_number(width::negative_part(value) as usize, &mut text[at..]);
+        return at + text::write_number(board_width::negative_part(value) as usize, &mut text[at..]);
     }
-    listing::write_number(width::positive_part(value) as usize, text)
+    text::write_number(board_width::positive_part(value) as usize, text)
 }
 
 // An output and the line's end.
@@ -63,7 +63,7 @@ fn run_and_write(netlist: &[u8], samples: &[u8], outputs: &mut [i64], text: &mut
 {
     let answer = samples::run_on_bytes(netlist, samples, outputs);
     if answer.refusal != 0 {
-        return listing::write_refused(answer.refusal, answer.place, text);
+        return text::write_refused(answer.refusal, answer.place, text);
     }
     write_outputs(outputs, text)
 }
@@ -74,7 +74,7 @@ fn write_text(netlist: &[u8], samples: &[u8], text: &mut [u8]) -> usize
     ensures { λ r. ⌜ Wrote (now (text .entry)) (now (text .exit)) r (runText (now (netlist .entry)) (now (samples .entry))) ⌝ }
     ensures { λ r. ⌜ r ≤ longestRunText ⌝ }
 {
-    let m = checker::read::read(netlist).m as usize;
+    let m = netlist_read::read(netlist).m as usize;
     let mut outputs: [i64; MAX_ROWS] = [0; MAX_ROWS];
     run_and_write(netlist, samples, &mut outputs[..m], text)
 }

@@ -1,14 +1,14 @@
 // Document 01, "Reading, checking, running": run, with the samples given as bytes, 2 bytes each, little-endian two's complement, as the
 // matrix record's coefficients are. Rests on limits, layout and checker.
-use layout::little_endian::word_at;
-use layout::matrix::signed_word;
+use layout_matrix::signed_word;
+use layout_records::little_endian::word_at;
 use limits::MAX_COLUMNS;
-use reading::RunAnswer;
+use netlist_rules::RunAnswer;
 ghost use mathlib.Core.Path.{_≡_};
 ghost use Prim.Native.Nat.{_*_, _≤_};
 ghost use lib.ListN.{length, take};
 ghost use Rattle.limits.specs.Limits.{maxColumns};
-ghost use Rattle.reading.specs.Run.{runAnswer, runOutputs};
+ghost use Rattle.netlist_rules.specs.Run.{runAnswer, runOutputs};
 ghost use Rattle.run_text.specs.Samples.{sampleCount, samplesOf, firstSamples};
 
 // One sample more than any netlist takes.
@@ -44,8 +44,8 @@ pub(crate) fn run_on_bytes(netlist: &[u8], samples: &[u8], outputs: &mut [i64]) 
     let count = sample_count(samples);
     if count > MAX_COLUMNS {
         let zeros: [i16; TOO_MANY] = [0; TOO_MANY];
-        return checker::run::run(netlist, &zeros, outputs);
+        return netlist_run::run(netlist, &zeros, outputs);
     }
     let vector = decoded(samples, count);
-    checker::run::run(netlist, &vector[..count], outputs)
+    netlist_run::run(netlist, &vector[..count], outputs)
 }

@@ -1,20 +1,20 @@
 // Runs compile, read, check and run on stored cases. Standard input is a list of cases: which call (1 byte: 0 compile, 1 read and check,
 // 2 run), two numbers (2 bytes each, little-endian), and the bytes that belong to them, as the call's file says. What is printed is
 // compared with the output of a second implementation.
-mod compile; // compile.rt: a case of compile
-mod check; // check.rt: a case of read and check
-mod run; // run.rt: a case of run
+mod compile_case; // compile_case.rt: a case of compile
+mod check_case; // check_case.rt: a case of read and check
+mod run_case; // run_case.rt: a case of run
 
-use layout::little_endian::word_at;
+use layout_records::little_endian::word_at;
 use libc::STDIN_FILENO;
 
 fn one_case(call: u8, first: u16, second: u16) {
     if call == 0 {
-        compile::compile_case(first, second);
+        compile_case::compile_case(first, second);
     } else if call == 1 {
-        check::check_case(first, second);
+        check_case::check_case(first, second);
     } else {
-        run::run_case(first, second);
+        run_case::run_case(first, second);
     }
 }
 

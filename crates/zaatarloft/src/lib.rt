@@ -3,11 +3,11 @@
 // The names say raw: include/zaatarloft.h and rust/src/lib.rs have calls over them that give an answer as one struct.
 ghost use mathlib.Core.Path.{_≡_};
 ghost use lib.ListN.{length};
-ghost use Rattle.compilation.specs.Compile.{compileAnswer, compileBuffer};
-ghost use Rattle.reading.specs.Read.{readAnswer};
-ghost use Rattle.reading.specs.Check.{checkAnswer};
-ghost use Rattle.reading.specs.Run.{runAnswer, runOutputs};
-ghost use Rattle.layout.specs.Step.{stepNumbers};
+ghost use Rattle.compile_rules.specs.Compile.{compileAnswer, compileBuffer};
+ghost use Rattle.netlist_rules.specs.Read.{readAnswer};
+ghost use Rattle.netlist_rules.specs.Check.{checkAnswer};
+ghost use Rattle.netlist_rules.specs.Run.{runAnswer, runOutputs};
+ghost use Rattle.layout_rules.specs.Step.{stepNumbers};
 
 // Compile: from a matrix record to its netlist, at the start of the lent buffer.
 #[no_mangle]
@@ -25,7 +25,7 @@ pub extern "C" fn zaatarloft_raw_compile(
     ensures { λ r. ⌜ record { refusal = r; place = now (place .exit); written = now (written .exit); operations = now (operations .exit); plain = now (plain .exit); divisors = now (divisors .exit); replacements = now (replacements .exit); depth = now (depth .exit) } ≡ compileAnswer (now (matrix .entry)) (length (now (buffer .entry))) ⌝ }
     ensures { λ _. ⌜ now (buffer .exit) ≡ compileBuffer (now (matrix .entry)) (now (buffer .entry)) ⌝ }
 {
-    let compiled = compiler::compile(matrix, buffer);
+    let compiled = compile::compile(matrix, buffer);
     *place = compiled.place;
     *written = compiled.written;
     *operations = compiled.operations;
@@ -48,7 +48,7 @@ pub extern "C" fn zaatarloft_raw_read(
 ) -> u8
     ensures { λ r. ⌜ record { refusal = r; place = now (place .exit); m = now (m .exit); n = now (n .exit); operations = now (operations .exit); depth = now (depth .exit) } ≡ readAnswer (now (netlist .entry)) ⌝ }
 {
-    let reading = checker::read::read(netlist);
+    let reading = netlist_read::read(netlist);
     *place = reading.place;
     *m = reading.m;
     *n = reading.n;
@@ -62,7 +62,7 @@ pub extern "C" fn zaatarloft_raw_read(
 pub extern "C" fn zaatarloft_raw_check(matrix: &[u8], netlist: &[u8], place: &mut usize) -> u8
     ensures { λ r. ⌜ record { refusal = r; place = now (place .exit) } ≡ checkAnswer (now (matrix .entry)) (now (netlist .entry)) ⌝ }
 {
-    let checked = checker::check::check(matrix, netlist);
+    let checked = netlist_check::check(matrix, netlist);
     *place = checked.place;
     checked.refusal
 }
@@ -78,7 +78,7 @@ pub extern "C" fn zaatarloft_raw_run(
     ensures { λ r. ⌜ record { refusal = r; place = now (place .exit) } ≡ runAnswer (now (netlist .entry)) (length (now (samples .entry))) (length (now (outputs .entry))) ⌝ }
     ensures { λ _. ⌜ now (outputs .exit) ≡ runOutputs (now (netlist .entry)) (now (samples .entry)) (now (outputs .entry)) ⌝ }
 {
-    let ran = checker::run::run(netlist, samples, outputs);
+    let ran = netlist_run::run(netlist, samples, outputs);
     *place = ran.place;
     ran.refusal
 }
@@ -94,7 +94,7 @@ pub extern "C" fn zaatarloft_raw_step(
 ) -> u8
     ensures { λ r. ⌜ record { refusal = r; place = now (place .exit); kind = now (kind .exit); next = now (next .exit) } ≡ stepNumbers (now (bytes .entry)) at ⌝ }
 {
-    let numbers = layout::step::step_numbers(bytes, at);
+    let numbers = layout_step::step_numbers(bytes, at);
     *place = numbers.place;
     *kind = numbers.kind;
     *next = numbers.next;

@@ -1,6 +1,6 @@
 -- `bank_text::write_bank` meets its contract. Assumes nothing.
 use native.Mathlib.Omega.{arith}
-use Rattle.listing.proofs.Wrote.{wrote-nothing, wrote-as, text-short, text-fits}
+use Rattle.text.proofs.Wrote.{wrote-nothing, wrote-as, text-short, text-fits}
 use borrow.Author.Needs.{needs}
 use Rattle.bank_text.specs.BankText.{longestBankText}
 use Rattle.bank_text.proofs.write_bank.Statement.{statement}

@@ -6,14 +6,14 @@ use native.Mathlib.Omega.{arith}
 use lib.ListN.{length}
 use borrow.Author.Needs.{needs}
 use Rattle.limits.specs.Limits.{maxOperations}
-use Rattle.layout.specs.Records.{headLength}
-use Rattle.layout.specs.Places.{outputPlace}
-use Rattle.layout.specs.Matrix.{rows}
-use Rattle.layout.proofs.LittleEndian.{AreBytes}
-use Rattle.layout.proofs.MatrixRefusal.{AcceptedMatrix}
-use Rattle.listing.specs.Listing.{refusedLine}
-use Rattle.listing.specs.Records.{listingOf}
-use Rattle.listing.proofs.Wrote.{wrote-as}
+use Rattle.layout_rules.specs.Records.{headLength}
+use Rattle.layout_rules.specs.Places.{outputPlace}
+use Rattle.layout_rules.specs.Matrix.{rows}
+use Rattle.layout_rules.proofs.LittleEndian.{AreBytes}
+use Rattle.layout_rules.proofs.MatrixRefusal.{AcceptedMatrix}
+use Rattle.text.specs.Text.{refusedLine}
+use Rattle.listing_rules.specs.Records.{listingOf}
+use Rattle.text.proofs.Wrote.{wrote-as}
 use Rattle.bank_text.specs.BankText.{bankText}
 use Rattle.bank_text.proofs.Texts.{countsFrom, text-refused, text-accepted, limits, few, long}
 use Rattle.bank_text.proofs.write_text.Statement.{statement}

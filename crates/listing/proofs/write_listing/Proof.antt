@@ -1,7 +1,7 @@
 -- `listing::write_listing` meets its contract. Assumes nothing.
 use native.Mathlib.Omega.{arith}
 use lib.ListN.{length-take, length-drop}
-use Rattle.listing.proofs.Wrote.{wrote-more}
+use Rattle.text.proofs.Wrote.{wrote-more}
 use Rattle.listing.proofs.write_listing.Statement.{statement}
 use Rattle.listing.proofs.write_listing.Tie as tie
 

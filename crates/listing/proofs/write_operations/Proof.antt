@@ -3,11 +3,11 @@ use Prim.Native.Nat.{ℕ, _*_, _-_, _≤_}
 use mathlib.Core.Path.{_≡_, refl, ap, _∙_}
 use native.Mathlib.Omega.{arith}
 use lib.ListN.{length, length-take, length-drop}
-use Rattle.layout.specs.Records.{operationLength, operationOf}
-use Rattle.layout.specs.Places.{payloadOf, operationAt}
-use Rattle.listing.specs.Listing.{operationLine}
-use Rattle.listing.specs.Records.{longestOperationLine}
-use Rattle.listing.proofs.Listed.{Listed, listed-start, listed-more, listed-end}
+use Rattle.layout_rules.specs.Records.{operationLength, operationOf}
+use Rattle.layout_rules.specs.Places.{payloadOf, operationAt}
+use Rattle.listing_rules.specs.Listing.{operationLine}
+use Rattle.listing_rules.specs.Records.{longestOperationLine}
+use Rattle.listing_rules.proofs.Listed.{Listed, listed-start, listed-more, listed-end}
 use Rattle.listing.proofs.write_operations.Statement.{statement}
 use Rattle.listing.proofs.write_operations.Tie as tie
 

@@ -3,11 +3,11 @@ use Prim.Native.Nat.{ℕ, _+_, _*_, _-_, _≤_}
 use mathlib.Core.Path.{_≡_, refl, ap, _∙_}
 use native.Mathlib.Omega.{arith}
 use lib.ListN.{length, length-take, length-drop}
-use Rattle.layout.specs.Records.{outputLength, outputOf}
-use Rattle.layout.specs.Places.{payloadOf, outputAt}
-use Rattle.listing.specs.Listing.{outputLine}
-use Rattle.listing.specs.Records.{longestOutputLine}
-use Rattle.listing.proofs.Listed.{Listed, listed-start, listed-more, listed-end}
+use Rattle.layout_rules.specs.Records.{outputLength, outputOf}
+use Rattle.layout_rules.specs.Places.{payloadOf, outputAt}
+use Rattle.listing_rules.specs.Listing.{outputLine}
+use Rattle.listing_rules.specs.Records.{longestOutputLine}
+use Rattle.listing_rules.proofs.Listed.{Listed, listed-start, listed-more, listed-end}
 use Rattle.listing.proofs.write_outputs.Statement.{statement}
 use Rattle.listing.proofs.write_outputs.Tie as tie
 

@@ -5,9 +5,9 @@ use mathlib.Core.List.{List}
 use native.Mathlib.Omega.{arith}
 use lib.IntN.{ℤ, pos}
 use lib.ListN.{length, replicate, length-replicate}
-use Rattle.reading.specs.Run.{runAnswer, runOutputs}
+use Rattle.netlist_rules.specs.Run.{runAnswer, runOutputs}
 use Rattle.run_text.specs.Samples.{samplesOf}
-use Rattle.listing.proofs.Wrote.{wrote-as}
+use Rattle.text.proofs.Wrote.{wrote-as}
 use Rattle.run_text.specs.RunText.{valueLines, rowsRead}
 use Rattle.run_text.proofs.Texts.{text-refused, text-accepted}
 use borrow.Author.Needs.{needs}

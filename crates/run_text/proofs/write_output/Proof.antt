@@ -2,8 +2,8 @@
 use mathlib.Core.Path.{ap}
 use native.Mathlib.Omega.{arith}
 use Rattle.integers.proofs.Held.{is, held}
-use Rattle.listing.specs.Listing.{ascii}
-use Rattle.listing.proofs.Wrote.{wrote-copy, wrote-more, wrote-as}
+use Rattle.text.specs.Text.{ascii}
+use Rattle.text.proofs.Wrote.{wrote-copy, wrote-more, wrote-as}
 use Rattle.run_text.specs.RunText.{signedNumber}
 use borrow.Author.Needs.{needs}
 use Rattle.run_text.proofs.write_output.Statement.{statement}

@@ -8,8 +8,8 @@ use lib.ListN.{length, take, length-take, length-drop}
 use lib.Seq.{take-length}
 use mir.Syntax.{w64}
 use Rattle.integers.proofs.Held.{is, held}
-use Rattle.listing.specs.Wrote.{Wrote}
-use Rattle.listing.proofs.Wrote.{wrote-nothing, wrote-more, wrote-as}
+use Rattle.text.specs.Wrote.{Wrote}
+use Rattle.text.proofs.Wrote.{wrote-nothing, wrote-more, wrote-as}
 use Rattle.run_text.specs.RunText.{longestLine, valueLines}
 use Rattle.run_text.proofs.Signed.{next-line}
 use Rattle.run_text.proofs.write_outputs.Statement.{statement}

@@ -1,6 +1,6 @@
 -- `run_text::write_run` meets its contract. Assumes nothing.
 use native.Mathlib.Omega.{arith}
-use Rattle.listing.proofs.Wrote.{wrote-nothing, wrote-as, text-short, text-fits}
+use Rattle.text.proofs.Wrote.{wrote-nothing, wrote-as, text-short, text-fits}
 use borrow.Author.Needs.{needs}
 use Rattle.run_text.specs.RunText.{longestRunText}
 use Rattle.run_text.proofs.write_run.Statement.{statement}

@@ -8,10 +8,10 @@ use lib.ListN.{length, length-take, length-drop}
 use lib.Signed.{_≤ℤ_, _<ℤ_}
 use mir.Syntax.{w64}
 use Rattle.integers.proofs.Held.{Held, is, held, held-nat, when-lt, when-ge}
-use Rattle.width.specs.Width.{positivePart, negativePart}
-use Rattle.listing.specs.Decimal.{number}
-use Rattle.listing.specs.Listing.{ascii}
-use Rattle.listing.proofs.Wrote.{wrote-copy, wrote-more, wrote-as}
+use Rattle.board_rules.specs.Width.{positivePart, negativePart}
+use Rattle.text.specs.Decimal.{number}
+use Rattle.text.specs.Text.{ascii}
+use Rattle.text.proofs.Wrote.{wrote-copy, wrote-more, wrote-as}
 use Rattle.run_text.proofs.Signed.{signed-positive, signed-negative, positive-digits, negative-digits}
 use borrow.Author.Needs.{needs}
 use Rattle.run_text.proofs.write_signed.Statement.{statement}

@@ -6,9 +6,9 @@ use native.Mathlib.Omega.{arith}
 use lib.IntN.{ℤ, pos}
 use lib.ListN.{length, take, replicate, length-replicate}
 use Rattle.limits.specs.Limits.{maxRows}
-use Rattle.reading.specs.declared.ReadAnswer.{ReadAnswer}
-use Rattle.width.specs.Table.{filled}
-use Rattle.width.proofs.TableLaws.{take-filled}
+use Rattle.netlist_rules.specs.declared.ReadAnswer.{ReadAnswer}
+use Rattle.board_rules.specs.Table.{filled}
+use Rattle.board_rules.proofs.TableLaws.{take-filled}
 use Rattle.run_text.specs.RunText.{rowsRead}
 use Rattle.run_text.proofs.Texts.{rows-few}
 use borrow.Author.Needs.{needs}

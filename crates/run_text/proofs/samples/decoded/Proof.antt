@@ -7,8 +7,8 @@ use lib.ListN.{length, take, length-set}
 use mir.Syntax.{w16}
 use Rattle.limits.specs.Limits.{maxColumns}
 use Rattle.integers.proofs.Held.{call-result}
-use Rattle.layout.specs.Matrix.{signedWord}
-use Rattle.layout.specs.Places.{firstRecords}
+use Rattle.layout_rules.specs.Matrix.{signedWord}
+use Rattle.layout_rules.specs.Places.{firstRecords}
 use Rattle.run_text.specs.Samples.{firstSamples}
 use Rattle.run_text.proofs.SampleBytes.{next-sample}
 use Rattle.run_text.proofs.samples.decoded.Statement.{statement}

@@ -7,7 +7,7 @@ use lib.IntN.{ℤ, pos}
 use lib.ListN.{length, length-take, replicate}
 use borrow.Author.Needs.{needs}
 use Rattle.limits.specs.Limits.{maxColumns}
-use Rattle.reading.specs.Run.{runAnswer, runOutputs}
+use Rattle.netlist_rules.specs.Run.{runAnswer, runOutputs}
 use Rattle.run_text.specs.Samples.{firstSamples, samplesOf}
 use Rattle.run_text.proofs.SampleBytes.{samples-there, length-samples, many-alike}
 use Rattle.run_text.proofs.samples.run_on_bytes.Statement.{statement}

@@ -1,0 +1,49 @@
+-- Document 01, "Marked banks": the widths.
+-- Assumes nothing.
+use Prim.Native.Nat.{ℕ}
+use mathlib.Core.Path.{_≡_}
+use mathlib.Core.List.{List, [], _∷_}
+use lib.IntN.{pos, negsuc}
+use lib.ListN.{replicate}
+use Rattle.limits.specs.Limits.{sampleWidth}
+use Rattle.layout_rules.specs.declared.Operation.{Operation}
+use Rattle.layout_rules.specs.declared.Output.{Output}
+use Rattle.board_rules.specs.Machine.{entryAt, machine, outputValue}
+use Rattle.board_rules.specs.Width.{IsWidth, width}
+
+-- (a shifted by sa) plus (b shifted by sb), of width w
+abbrev added : ℕ → ℕ → ℕ → ℕ → ℕ → Operation
+added a sa b sb w = record { sign = 0; a = a; sa = sa; b = b; sb = sb; width = w }
+
+-- x0 + x1
+abbrev pub sumOfTwo : List Operation
+sumOfTwo = added 0 0 1 0 17 ∷ []
+
+-- −x0
+abbrev pub negatedSample : Output
+negatedSample = record { sign = 1; symbol = 0; shift = 0; width = 17 }
+
+-- a row of eight coefficients −32,768: the chain sums eight times 32,768, and the output is minus
+abbrev pub chainOfEight : List Operation
+chainOfEight =
+    added 0 15 1 15 32
+    ∷ added 8 0 2 15 33
+    ∷ added 9 0 3 15 33
+    ∷ added 10 0 4 15 34
+    ∷ added 11 0 5 15 34
+    ∷ added 12 0 6 15 34
+    ∷ added 13 0 7 15 34
+    ∷ []
+
+abbrev pub negatedChain : Output
+negatedChain = record { sign = 1; symbol = 14; shift = 0; width = 35 }
+
+-- "width of x0 + x1 is 17, of −x0 17, of eight times −32,768 summed 35": as worked out from the coefficients, and as defined, over all
+-- samples, of what the board machine computes
+pub record MarkedWidths : Type 0 where
+  pub sum : width sampleWidth (pos 1 ∷ pos 1 ∷ []) ≡ 17
+  pub negated : width sampleWidth (negsuc 0 ∷ []) ≡ 17
+  pub eight : width sampleWidth (replicate 8 (negsuc 32767)) ≡ 35
+  pub sum-is : IsWidth sampleWidth 2 (λ xs. entryAt (machine xs sumOfTwo) 2) 17
+  pub negated-is : IsWidth sampleWidth 1 (λ xs. outputValue (machine xs []) negatedSample) 17
+  pub eight-is : IsWidth sampleWidth 8 (λ xs. outputValue (machine xs chainOfEight) negatedChain) 35

@@ -1,0 +1,108 @@
+-- Document 01, "Netlist and board machine": what a planned netlist gives the writing of it, and compile's answer.
+-- Assumes nothing.
+use Prim.Native.Nat.{ℕ, zero, suc, _+_, _<_}
+use mathlib.Core.Path.{_≡_, refl, sym, ap, ap₂, _∙_, subst}
+use mathlib.Core.List.{List, _++_}
+use native.Mathlib.Omega.{arith}
+use native.Mathlib.Nat.{zero-add}
+use lib.ListN.{length, getD, take, drop}
+use lib.Seq.{length-take-le, split-at}
+use Rattle.limits.specs.Limits.{positions, sampleWidth, columnBits, maxCompiledWidth}
+use Rattle.limits.proofs.Numbers.{columns-in-bits}
+use Rattle.layout_rules.specs.declared.Operation.{Operation}
+use Rattle.layout_rules.specs.declared.Output.{Output}
+use Rattle.layout_rules.specs.Matrix.{matrixRefusal, matrix, rows, columns}
+use Rattle.layout_rules.specs.Records.{Netlist, headLength, netlistBytes}
+use Rattle.layout_rules.specs.Places.{netlistLength}
+use Rattle.layout_rules.specs.Written.{written}
+use Rattle.layout_rules.proofs.LittleEndian.{AreBytes}
+use Rattle.board_rules.specs.Machine.{depth}
+use Rattle.board_rules.specs.Netlist.{OperationLimits, OutputOperand}
+use Rattle.elimination_rules.specs.Rows.{Row, matrixRows, plainCount}
+use Rattle.elimination_rules.specs.Elimination.{Eliminated}
+use Rattle.elimination_rules.proofs.Order.{matrix-well-formed}
+use Rattle.compile_lists.specs.Lists.{noOperation, noOutput}
+use Rattle.compile_rules.specs.Compile.{operationsOf, outputsOf, netlistOf, compileRefused, eliminationOf, compiledNetlist, compiledBytes, compileAccepted, compileAnswer, compileBuffer}
+use Rattle.compile_rules.specs.Compiled.{compiledLimits}
+use Rattle.compile_write.specs.Tables.{Writable, EarlierOutputs, recordedNetlist}
+use Rattle.compile_rules.proofs.Counts.{length-outputs, netlist-length}
+use Rattle.compile_rules.proofs.Operands.{EachOperation, OperationsInRange, operations-in-range, EachOutput, OutputsInRange, outputs-in-range}
+use Rattle.compile_rules.proofs.Netlist.{Narrow, operation-at, output-at}
+use Rattle.compile_rules.proofs.Narrow.{narrow}
+use Rattle.compile_rules.proofs.Compiled.{limits, answer-refused, buffer-refused}
+use Rattle.compile_plan.proofs.PlanLaws.{within, limited, stepped, operations-most}
+
+-- ---- from each one to the one at an index
+
+operation-index : (P : ℕ → Operation → Type 0) (symbol : ℕ) (os : List Operation) → EachOperation P symbol os → (k : ℕ) → k < length os → P (symbol + k) (getD os k noOperation)
+operation-index P symbol os h k l =
+    subst (λ (i : ℕ). P (symbol + i) (getD os k noOperation)) (length-take-le k os (omega arith))
+    (operation-at P symbol os (take k os) (drop (suc k) os) (getD os k noOperation) h (split-at os k noOperation l))
+
+output-index : (P : Output → Type 0) (os : List Output) → EachOutput P os → (i : ℕ) → i < length os → P (getD os i noOutput)
+output-index P os h i l = output-at P os (take i os) (drop (suc i) os) (getD os i noOutput) h (split-at os i noOutput l)
+
+module _ (bytes : List ℕ) (all : AreBytes bytes) (accepted : matrixRefusal bytes ≡ 0) where
+  abbrev n : ℕ
+  n = columns bytes
+
+  abbrev first : List Row
+  first = matrixRows positions (matrix bytes)
+
+  abbrev e : Eliminated
+  e = eliminationOf bytes
+
+  in-range : OperationsInRange compiledLimits n (operationsOf n e)
+  in-range = operations-in-range compiledLimits n first e (omega arith) (matrix-well-formed positions n (matrix bytes) (limited bytes all accepted)) (stepped bytes all accepted)
+
+  narrow-widths : Narrow sampleWidth maxCompiledWidth n e
+  narrow-widths = narrow positions n (matrix bytes) e (omega arith) (limited bytes all accepted) (stepped bytes all accepted) sampleWidth columnBits (omega arith) (omega (arith, within bytes all accepted .limits .columns-most, columns-in-bits))
+
+  at : (k : ℕ) → k < length (operationsOf n e) → OperationLimits compiledLimits (n + k) (getD (operationsOf n e) k noOperation)
+  at k h = operation-index (OperationLimits compiledLimits) n (operationsOf n e) in-range k h
+
+  pub writable : Writable compiledLimits (columns bytes) (operationsOf (columns bytes) (eliminationOf bytes))
+  writable = record {
+    inputs = within bytes all accepted .limits .columns-most;
+    few = operations-most bytes all accepted;
+    operation = at;
+    narrow = narrow-widths .entries;
+  }
+
+  outputs-within : OutputsInRange compiledLimits (n + length (operationsOf n e)) (outputsOf n e)
+  outputs-within = outputs-in-range compiledLimits n first e (omega arith) (within bytes all accepted .limits .columns-least) (matrix-well-formed positions n (matrix bytes) (limited bytes all accepted)) (stepped bytes all accepted)
+
+  pub earlier-outputs : EarlierOutputs compiledLimits (columns bytes) (operationsOf (columns bytes) (eliminationOf bytes)) (outputsOf (columns bytes) (eliminationOf bytes))
+  earlier-outputs i h = output-index (OutputOperand compiledLimits (n + length (operationsOf n e))) (outputsOf n e) outputs-within i h
+
+  -- the size is known from the counts
+  pub size-is : length (compiledBytes bytes) ≡ netlistLength headLength (length (operationsOf (columns bytes) (eliminationOf bytes))) (length (outputsOf (columns bytes) (eliminationOf bytes)))
+  size-is = netlist-length sampleWidth (rows bytes) n first e (stepped bytes all accepted) ∙ omega (arith, length-outputs n first e (stepped bytes all accepted))
+
+pub netlist-is : (bytes : List ℕ) → recordedNetlist sampleWidth (rows bytes) (columns bytes) (operationsOf (columns bytes) (eliminationOf bytes)) (outputsOf (columns bytes) (eliminationOf bytes)) ≡ compiledNetlist bytes
+unfolding netlistOf
+netlist-is bytes = refl
+
+-- ---- compile's answer and buffer
+
+-- a matrix record that is declined
+pub declined : (bytes buffer : List ℕ) (refusal : ℕ) → refusal ≡ matrixRefusal bytes → (refusal ≡ 0 → ⊥)
+    → (compileRefused refusal ≡ compileAnswer bytes (length buffer)) × (buffer ≡ compileBuffer bytes buffer)
+declined bytes buffer zero e h = absurd (h refl)
+declined bytes buffer (suc r) e h = (sym (answer-refused bytes r (length buffer) (sym e)), sym (buffer-refused bytes r buffer (sym e)))
+
+-- a netlist that is written
+pub accepted-is : (bytes : List ℕ) (size operations plain divisors replacements deep : ℕ)
+    → size ≡ length (compiledBytes bytes) → operations ≡ length (operationsOf (columns bytes) (eliminationOf bytes)) → plain ≡ plainCount (matrixRows positions (matrix bytes))
+    → divisors ≡ length (eliminationOf bytes .divisors) → replacements ≡ eliminationOf bytes .replacements → deep ≡ depth (columns bytes) (operationsOf (columns bytes) (eliminationOf bytes))
+    → record { refusal = 0; place = 0; written = size; operations = operations; plain = plain; divisors = divisors; replacements = replacements; depth = deep } ≡ compileAccepted bytes
+unfolding netlistOf
+accepted-is bytes size operations plain divisors replacements deep a b c d f g = rw (a, b, c, d, f, g)
+
+pub buffer-is : (bytes buffer : List ℕ) (os : List Operation) (outputs : List Output)
+    → os ≡ operationsOf (columns bytes) (eliminationOf bytes) → outputs ≡ outputsOf (columns bytes) (eliminationOf bytes)
+    → written buffer 0 (netlistBytes (recordedNetlist sampleWidth (rows bytes) (columns bytes) os outputs)) ≡ compiledBytes bytes ++ drop (length (compiledBytes bytes)) buffer
+buffer-is bytes buffer os outputs a b =
+    ap₂ (λ (ps : List Operation) (us : List Output). written buffer 0 (netlistBytes (recordedNetlist sampleWidth (rows bytes) (columns bytes) ps us))) a b
+    ∙ ap (λ (net : Netlist). written buffer 0 (netlistBytes net)) (netlist-is bytes)
+    ∙ ap (λ (k : ℕ). compiledBytes bytes ++ drop k buffer) (zero-add (length (compiledBytes bytes)))

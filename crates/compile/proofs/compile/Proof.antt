@@ -1,0 +1,179 @@
+-- `compile::compile` meets its contract. Assumes nothing.
+use borrow.Author.Needs.{needs}
+use native.Mathlib.Omega.{arith}
+use Prim.Native.Nat.{ℕ, _≤_, _<_}
+use mathlib.Core.Path.{_≡_, sym, ap, subst, _∙_}
+use mathlib.Core.List.{List}
+use lib.ListN.{length}
+use Rattle.limits.specs.Limits.{maxOperations}
+use Rattle.layout_rules.specs.declared.Operation.{Operation}
+use Rattle.layout_rules.specs.declared.Output.{Output}
+use Rattle.layout_rules.specs.Matrix.{matrixRefusal, columns}
+use Rattle.layout_rules.specs.Records.{headLength}
+use Rattle.layout_rules.specs.Places.{netlistLength}
+use Rattle.layout_rules.proofs.LittleEndian.{AreBytes}
+use Rattle.layout_rules.proofs.MatrixRefusal.{accepted-matrix}
+use Rattle.board_rules.specs.Machine.{depth}
+use Rattle.compile_lists.specs.Lists.{operationsList, outputsList}
+use Rattle.compile_rules.specs.Compile.{operationsOf, eliminationOf, compiledBytes}
+use Rattle.compile_rules.specs.Compiled.{compiledLimits}
+use Rattle.compile_write.specs.Tables.{Writable, EarlierOutputs}
+use Rattle.compile_rules.proofs.Compiled.{plain-most, answer-short, answer-accepted, buffer-short, buffer-accepted}
+use Rattle.compile_plan.proofs.PlanLaws.{operations-most, operations-sum, replacements-most}
+use Rattle.compile.proofs.AnswerLaws.{writable, earlier-outputs, size-is, declined, accepted-is, buffer-is}
+use Rattle.compile.proofs.compile.Statement.{statement}
+use Rattle.compile.proofs.compile.Tie as tie
+
+matrix-refusal-requires : tie.Need-matrix-refusal-requires
+matrix-refusal-requires c κs = search needs
+
+refused-requires : tie.Need-refused-requires
+refused-requires c κs = search needs
+
+returns : tie.Need-returns
+returns c =
+    let g = c .before .before in
+    let s = g .before .before .before in
+    let both = declined (s .args .matrix .now) (s .args .buffer .now) (g .matrix-refusal .result) (g .matrix-refusal .ensures) (c .before .if1 .taken) in
+    (c .refused .ensures ∙ both .0, both .1)
+
+plan-requires : tie.Need-plan-requires
+plan-requires c κs = search needs
+
+-- the plan of a record that is not declined
+module _ (c : tie.After-plan) where
+  abbrev known : tie.After-shared-slice-known
+  known = c .before .before .before .before
+
+  abbrev bytes : List ℕ
+  bytes = known .before .args .matrix .now
+
+  all : AreBytes bytes
+  all i = omega (arith, known .shared-slice-known .given i)
+
+  accepted : matrixRefusal bytes ≡ 0
+  accepted = sym (c .before .before .matrix-refusal .ensures) ∙ c .before .if1 .left
+
+  abbrev os : List Operation
+  os = operationsList (c .plan .result .operations)
+
+  abbrev outputs : List Output
+  outputs = outputsList (c .plan .result .outputs)
+
+  few : length os ≤ maxOperations
+  few = omega (arith, ap (length {A = Operation}) (c .plan .ensures .operations), operations-most bytes all accepted)
+
+  size : length (compiledBytes bytes) ≡ netlistLength headLength (length os) (length outputs)
+  size = omega (arith, size-is bytes all accepted, ap (length {A = Operation}) (c .plan .ensures .operations), ap (length {A = Output}) (c .plan .ensures .outputs))
+
+count-requires : tie.Need-count-requires
+count-requires c κs = search needs
+
+count-requires-2 : tie.Need-count-requires-2
+count-requires-2 c κs = search needs
+
+netlist-length-requires : tie.Need-netlist-length-requires
+netlist-length-requires c κs = omega (arith, c .before .count .ensures, few (c .before .before .before .before), c .count2 .ensures .1)
+
+-- the size, in the plan's terms
+module _ (c : tie.After-netlist-length) where
+  abbrev plan : tie.After-plan
+  plan = c .before .before .before .before .before
+
+  counted : c .before .before .count .result ≤ maxOperations
+  counted = omega (arith, c .before .before .count .ensures, few plan)
+
+  is-size : c .netlist-length .result ≡ length (compiledBytes (bytes plan))
+  is-size = omega (arith, c .netlist-length .ensures, size plan, c .before .before .count .ensures, c .before .count2 .ensures .0)
+
+-- the bytes of m and n are there
+enough : (c : tie.After-netlist-length) → (i : ℕ) → i < 6 → i < length (bytes (plan c))
+enough c i h = omega (arith, accepted-matrix (bytes (plan c)) (accepted (plan c)) .enough)
+
+refused-requires-2 : tie.Need-refused-requires-2
+refused-requires-2 c κs = search needs
+
+returns-2 : tie.Need-returns-2
+returns-2 c =
+    let g = c .before .before in
+    let p = plan g in
+    let b = bytes p in
+    let buffer = known p .before .args .buffer .now in
+    let short : length buffer < length (compiledBytes b) = omega (arith, is-size g, c .before .if2 .taken) in
+    (c .refused2 .ensures ∙ sym (answer-short b (length buffer) (accepted p) short), sym (buffer-short b buffer (accepted p) short))
+
+shared-slice-read-write-netlist : tie.Need-shared-slice-read-write-netlist
+shared-slice-read-write-netlist c = enough (c .before .before .before) 4 (omega arith)
+
+shared-slice-read-write-netlist-2 : tie.Need-shared-slice-read-write-netlist-2
+shared-slice-read-write-netlist-2 c = enough (c .before .before .before .before) 5 (omega arith)
+
+write-netlist-requires : tie.Need-write-netlist-requires
+write-netlist-requires c κs =
+    let g = c .before .before .before .before in
+    let p = plan g in
+    let b = bytes p in
+    let first : Writable compiledLimits (columns b) (os p) = subst (λ (l : List Operation). Writable compiledLimits (columns b) l) (sym (p .plan .ensures .operations)) (writable b (all p) (accepted p)) in
+    let second : EarlierOutputs compiledLimits (columns b) (os p) (outputs p) =
+    subst (λ (l : List Operation). EarlierOutputs compiledLimits (columns b) l (outputs p)) (sym (p .plan .ensures .operations))
+    (subst (λ (l : List Output). EarlierOutputs compiledLimits (columns b) (operationsOf (columns b) (eliminationOf b)) l) (sym (p .plan .ensures .outputs)) (earlier-outputs b (all p) (accepted p))) in
+    ((first, second), omega (arith, is-size g, size p, c .before .before .before .if2 .left))
+
+cast-t18 : tie.Need-cast-t18
+cast-t18 c = omega (arith, counted (c .before .before .before .before .before .before .before))
+
+cast-t19 : tie.Need-cast-t19
+cast-t19 c =
+    let p = plan (c .before .before .before .before .before .before .before .before) in
+    omega (arith, p .plan .ensures .plain, plain-most (bytes p) (all p) (accepted p))
+
+cast-t20 : tie.Need-cast-t20
+cast-t20 c =
+    let p = plan (c .before .before .before .before .before .before .before .before .before) in
+    omega (arith, p .plan .ensures .divisors, operations-sum (bytes p) (all p) (accepted p))
+
+cast-t21 : tie.Need-cast-t21
+cast-t21 c =
+    let p = plan (c .before .before .before .before .before .before .before .before .before .before) in
+    omega (arith, p .plan .ensures .replacements, replacements-most (bytes p) (all p) (accepted p))
+
+same-length : tie.Need-same-length
+same-length c = search needs
+
+returns-3 : tie.Need-returns-3
+returns-3 c =
+    let w = c .before .before .before .before .before in
+    let fits = w .before .before .before .before in
+    let g = fits .before in
+    let p = plan g in
+    let b = bytes p in
+    let buffer = known p .before .args .buffer .now in
+    let room : length (compiledBytes b) ≤ length buffer = omega (arith, is-size g, fits .if2 .left) in (
+      accepted-is b _ _ _ _ _ _ (is-size g) (g .before .before .count .ensures ∙ ap (length {A = Operation}) (p .plan .ensures .operations)) (p .plan .ensures .plain) (p .plan .ensures .divisors)
+          (p .plan .ensures .replacements) (w .write-netlist .ensures .0 ∙ ap (depth (columns b)) (p .plan .ensures .operations))
+          ∙ sym (answer-accepted b (length buffer) (accepted p) room),
+      w .write-netlist .ensures .1 ∙ buffer-is b buffer (os p) (outputs p) (p .plan .ensures .operations) (p .plan .ensures .outputs) ∙ sym (buffer-accepted b buffer (accepted p) room),
+    )
+
+pub compile-spec : {M : Type 1} → statement M
+compile-spec =
+    tie.close
+    (tie.spec
+    matrix-refusal-requires
+    refused-requires
+    returns
+    plan-requires
+    count-requires
+    count-requires-2
+    netlist-length-requires
+    refused-requires-2
+    returns-2
+    shared-slice-read-write-netlist
+    shared-slice-read-write-netlist-2
+    write-netlist-requires
+    cast-t18
+    cast-t19
+    cast-t20
+    cast-t21
+    same-length
+    returns-3)

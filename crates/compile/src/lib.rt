@@ -1,0 +1,39 @@
+// Document 01, "Netlist and board machine": compile, from a matrix record to the netlist's bytes, as `compile_rules` has it. Rests on
+// `compile_plan` and `compile_write`.
+use compile_rules::CompileAnswer;
+use compile_write::write_netlist;
+use layout_records::places::HEAD_LENGTH;
+use layout_records::places::netlist_length;
+ghost use mathlib.Core.Path.{_≡_};
+ghost use lib.ListN.{length};
+ghost use Rattle.compile_rules.specs.Compile.{compileAnswer, compileBuffer};
+
+// From a matrix record to its netlist, at the start of the lent buffer. Nothing is written before it is known that all of it fits.
+pub fn compile(matrix: &[u8], buffer: &mut [u8]) -> CompileAnswer
+    ensures { λ r. ⌜ r ≡ compileAnswer (now (matrix .entry)) (length (now (buffer .entry))) ⌝ }
+    ensures { λ _. ⌜ now (buffer .exit) ≡ compileBuffer (now (matrix .entry)) (now (buffer .entry)) ⌝ }
+{
+    let refusal = layout_matrix::matrix_refusal(matrix);
+    if refusal != 0 {
+        return CompileAnswer::refused(refusal);
+    }
+    let plan = compile_plan::plan(matrix);
+    let operations = plan.operations;
+    let outputs = plan.outputs;
+    let count = operations.count();
+    let size = netlist_length(HEAD_LENGTH, count, outputs.count());
+    if buffer.len() < size {
+        return CompileAnswer::refused(6);
+    }
+    let depth = write_netlist(buffer, operations, outputs, matrix[4], matrix[5]);
+    CompileAnswer {
+        refusal: 0,
+        place: 0,
+        written: size,
+        operations: count as u16,
+        plain: plan.plain as u16,
+        divisors: plan.divisors as u16,
+        replacements: plan.replacements as u16,
+        depth,
+    }
+}

@@ -1,0 +1,78 @@
+-- Document 01, "Netlist and board machine": what a matrix record that is not declined gives each part of compile, and compile's answer.
+-- Assumes nothing.
+use Prim.Native.Nat.{ℕ, _+_, _≤_}
+use mathlib.Core.Path.{_≡_, refl, _∙_}
+use mathlib.Core.List.{List, _++_, map}
+use native.Mathlib.Omega.{arith}
+use lib.ListN.{length, length-map}
+use Rattle.limits.specs.Limits.{maxRows, positions, maxOperations}
+use Rattle.layout_rules.specs.declared.Operation.{Operation}
+use Rattle.layout_rules.specs.declared.Output.{Output}
+use Rattle.layout_rules.specs.Matrix.{matrixRefusal, matrix, rows, columns}
+use Rattle.layout_rules.proofs.LittleEndian.{AreBytes}
+use Rattle.elimination_rules.specs.Rows.{Row, matrixRows, plainCount}
+use Rattle.elimination_rules.specs.Elimination.{Eliminated, smallestFirst, elimination, matrixElimination}
+use Rattle.elimination_rules.proofs.Order.{Columns}
+use Rattle.elimination_rules.proofs.Counts.{steps-plain}
+use Rattle.elimination_rows.specs.State.{Ready}
+use Rattle.elimination_rows.proofs.Ready.{ready-matrix}
+use Rattle.compile_rules.specs.Chains.{divisorOperation, chains, rowOutputs}
+use Rattle.compile_rules.specs.Compile.{operationsOf, outputsOf, eliminationOf}
+use Rattle.compile_rules.specs.Limits.{WithinLimits}
+use Rattle.compile_rules.proofs.Limits.{rows-columns}
+use Rattle.compile_rules.proofs.Counts.{Stepped, length-operations, length-outputs, operations-fewer}
+use Rattle.compile_rules.proofs.Compiled.{length-matrix-rows, limits, steps, plain-most}
+use Rattle.compile_chains.proofs.ChainLaws.{outputs-count}
+
+module _ (bytes : List ℕ) (all : AreBytes bytes) (accepted : matrixRefusal bytes ≡ 0) where
+  abbrev n : ℕ
+  n = columns bytes
+
+  abbrev first : List Row
+  first = matrixRows positions (matrix bytes)
+
+  abbrev e : Eliminated
+  e = eliminationOf bytes
+
+  abbrev pub within : WithinLimits positions (rows bytes) (columns bytes) (matrix bytes)
+  within = limits bytes all accepted
+
+  pub limited : Columns n (matrix bytes)
+  limited = rows-columns positions n (matrix bytes) (within .coefficients)
+
+  abbrev pub stepped : Stepped n first e
+  stepped = steps bytes all accepted
+
+  pub ready : Ready (columns bytes) (matrixRows positions (matrix bytes))
+  ready = ready-matrix n (matrix bytes) limited (within .limits .columns-most) (omega (arith, within .one-per-row, within .limits .rows-most))
+
+  pub operations-most : length (operationsOf (columns bytes) (eliminationOf bytes)) ≤ maxOperations
+  operations-most = omega (arith, operations-fewer n first e stepped, plain-most bytes all accepted)
+
+  pub operations-sum : length (eliminationOf bytes .divisors) + plainCount (eliminationOf bytes .remainingRows) ≤ maxOperations
+  operations-sum = omega (arith, length-operations n e, operations-most)
+
+  pub replacements-most : eliminationOf bytes .replacements ≤ maxOperations
+  replacements-most = omega (arith, steps-plain stepped, plain-most bytes all accepted)
+
+  pub outputs-are : length (outputsOf (columns bytes) (eliminationOf bytes)) ≡ rows bytes
+  outputs-are = length-outputs n first e stepped ∙ length-matrix-rows positions (matrix bytes) ∙ within .one-per-row
+
+  pub remaining-few : length (eliminationOf bytes .remainingRows) ≤ maxRows
+  unfolding outputsOf
+  remaining-few = omega (arith, outputs-count (n + length (e .divisors)) (e .remainingRows), outputs-are, within .limits .rows-most)
+
+-- the operations of divisors and remaining rows, and the outputs
+pub operations-of : (k : ℕ) (end : Eliminated) (made all : List Operation) (remaining : List Row)
+    → made ≡ map divisorOperation (end .divisors) → all ≡ made ++ chains (k + length made) remaining → remaining ≡ end .remainingRows → all ≡ operationsOf k end
+unfolding operationsOf
+operations-of k end made all remaining m a r = a ∙ rw (m, r, length-map (end .divisors) divisorOperation)
+
+pub outputs-of : (k : ℕ) (end : Eliminated) (next : ℕ) (all : List Output) (remaining : List Row)
+    → all ≡ rowOutputs next remaining → next ≡ k + length (end .divisors) → remaining ≡ end .remainingRows → all ≡ outputsOf k end
+unfolding outputsOf
+outputs-of k end next all remaining a d r = a ∙ rw (d, r)
+
+pub elimination-is : (bytes : List ℕ) → elimination smallestFirst (columns bytes) (matrixRows positions (matrix bytes)) ≡ eliminationOf bytes
+unfolding matrixElimination
+elimination-is bytes = refl

@@ -1,0 +1,146 @@
+-- `compile_plan::plan` meets its contract. Assumes nothing.
+use borrow.Author.Needs.{needs}
+use native.Mathlib.Omega.{arith}
+use Prim.Native.Nat.{ℕ, _+_, _≤_}
+use mathlib.Core.Path.{_≡_, sym, ap, subst, _∙_}
+use mathlib.Core.List.{List}
+use lib.ListN.{length, length-map}
+use Rattle.limits.specs.Limits.{positions, maxOperations}
+use Rattle.layout_rules.specs.Matrix.{matrix, rows, columns}
+use Rattle.layout_rules.proofs.LittleEndian.{AreBytes}
+use Rattle.layout_rules.proofs.MatrixRefusal.{AcceptedMatrix, accepted-matrix}
+use Rattle.elimination_rules.specs.Rows.{Row, matrixRows, plainCount}
+use Rattle.elimination_rules.specs.Elimination.{Eliminated, smallestFirst, elimination}
+use Rattle.elimination_rows.specs.State.{rowsTerms, Ready}
+use Rattle.compile_lists.specs.Lists.{operationsList}
+use Rattle.compile_rules.specs.Chains.{divisorOperation}
+use Rattle.compile_rules.specs.Compile.{eliminationOf}
+use Rattle.compile_plan.specs.Planned.{EliminatedOf}
+use Rattle.compile_rules.proofs.Compiled.{plain-most}
+use Rattle.compile_plan.proofs.PlanLaws.{ready, operations-sum, remaining-few, operations-of, outputs-of, elimination-is}
+use Rattle.compile_plan.proofs.plan.Statement.{statement}
+use Rattle.compile_plan.proofs.plan.Tie as tie
+
+-- the record is not declined
+module _ (c : tie.After-shared-slice-known) where
+  abbrev bytes : List ℕ
+  bytes = c .before .args .matrix .now
+
+  all : AreBytes bytes
+  all i = omega (arith, c .shared-slice-known .given i)
+
+  accepted : AcceptedMatrix bytes
+  accepted = accepted-matrix bytes (c .before .pre)
+
+shared-slice-read-m : tie.Need-shared-slice-read-m
+shared-slice-read-m c = omega (arith, accepted (c .before) .enough)
+
+cast-m : tie.Need-cast-m
+cast-m c = omega (arith, accepted (c .before) .limits .rows-most)
+
+shared-slice-read-n : tie.Need-shared-slice-read-n
+shared-slice-read-n c = omega (arith, accepted (c .before .before) .enough)
+
+cast-n : tie.Need-cast-n
+cast-n c = omega (arith, accepted (c .before .before) .limits .columns-most)
+
+matrix-rows-requires : tie.Need-matrix-rows-requires
+matrix-rows-requires c κs = let a = accepted (c .before .before) in (a .limits .rows-most, a .limits .columns-most, omega (arith, a .size))
+
+-- the matrix's rows
+module _ (c : tie.After-matrix-rows) where
+  abbrev known : tie.After-shared-slice-known
+  known = c .before .before .before
+
+  first-is : rowsTerms (c .matrix-rows .result) ≡ matrixRows positions (matrix (bytes known))
+  unfolding matrix
+  first-is = c .matrix-rows .ensures
+
+  few : plainCount (rowsTerms (c .matrix-rows .result)) ≤ maxOperations
+  few = omega (arith, ap plainCount first-is, plain-most (bytes known) (all known) (known .before .pre))
+
+plain-count-requires : tie.Need-plain-count-requires
+plain-count-requires c κs = few c
+
+cast-eliminate-rows : tie.Need-cast-eliminate-rows
+cast-eliminate-rows c = omega (arith, accepted (known (c .before)) .limits .columns-most)
+
+eliminate-rows-requires : tie.Need-eliminate-rows-requires
+eliminate-rows-requires c κs =
+    let g = c .before in
+    let k = known g in
+    (subst (λ (rs : List Row). Ready (columns (bytes k)) rs) (sym (first-is g)) (ready (bytes k) (all k) (k .before .pre)), accepted k .limits .columns-most, few g)
+
+-- elimination's end
+module _ (c : tie.After-eliminate-rows) where
+  abbrev start : tie.After-shared-slice-known
+  start = known (c .before .before)
+
+  abbrev end : Eliminated
+  end = eliminationOf (bytes start)
+
+  end-is : EliminatedOf end (c .eliminate-rows .result)
+  end-is = subst (λ (e : Eliminated). EliminatedOf e (c .eliminate-rows .result))
+      (ap (elimination smallestFirst (columns (bytes start))) (first-is (c .before .before)) ∙ elimination-is (bytes start)) (c .eliminate-rows .ensures)
+
+  made : length (operationsList (c .eliminate-rows .result .operations)) ≡ length (end .divisors)
+  made = ap length (end-is .operations) ∙ length-map (end .divisors) divisorOperation
+
+  sum : length (operationsList (c .eliminate-rows .result .operations)) + plainCount (rowsTerms (c .eliminate-rows .result .rows)) ≤ maxOperations
+  sum = omega (arith, made, ap plainCount (end-is .rows), operations-sum (bytes start) (all start) (start .before .pre))
+
+count-requires : tie.Need-count-requires
+count-requires c κs = search needs
+
+with-chains-requires : tie.Need-with-chains-requires
+with-chains-requires c κs = let g = c .before .before .before in (accepted (start g) .limits .columns-most, sum g)
+
+add-row-outputs : tie.Need-add-row-outputs
+add-row-outputs c = let g = c .before .before .before .before in omega (arith, sum g, c .before .count .ensures, accepted (start g) .limits .columns-most)
+
+cast-row-outputs : tie.Need-cast-row-outputs
+cast-row-outputs c = let g = c .before .before .before .before in omega (arith, sum g, c .before .count .ensures, accepted (start g) .limits .columns-most)
+
+row-outputs-requires : tie.Need-row-outputs-requires
+row-outputs-requires c κs =
+    let g = c .before .before .before .before in
+    let k = start g in (
+      omega (arith, sum g, c .before .count .ensures, accepted k .limits .columns-most),
+      omega (arith, ap (length {A = Row}) (end-is g .rows), remaining-few (bytes k) (all k) (k .before .pre)),
+    )
+
+returns : tie.Need-returns
+returns c =
+    let w = c .before in
+    let count = w .before in
+    let g = count .before .before .before in
+    let k = start g in
+    let n = columns (bytes k) in
+    let e = end-is g in
+    let many : count .count .result ≡ length (end g .divisors) = count .count .ensures ∙ made g in
+    record {
+      operations = operations-of n (end g) (operationsList (g .eliminate-rows .result .operations)) _ (rowsTerms (g .eliminate-rows .result .rows)) (e .operations) (w .with-chains .ensures) (e .rows);
+      outputs = outputs-of n (end g) _ _ (rowsTerms (g .eliminate-rows .result .rows)) (c .row-outputs .ensures) (ap (λ (x : ℕ). n + x) many) (e .rows);
+      plain = g .before .plain-count .ensures ∙ ap plainCount (first-is (g .before .before));
+      divisors = many;
+      replacements = e .replacements;
+    }
+
+pub plan-spec : {M : Type 1} → statement M
+plan-spec =
+    tie.close
+    (tie.spec
+    shared-slice-read-m
+    cast-m
+    shared-slice-read-n
+    cast-n
+    matrix-rows-requires
+    plain-count-requires
+    cast-eliminate-rows
+    eliminate-rows-requires
+    count-requires
+    with-chains-requires
+    add-row-outputs
+    cast-row-outputs
+    row-outputs-requires
+    returns)

@@ -1,0 +1,47 @@
+// Document 01, "Elimination": elimination to its end. Rests on `elimination_pick`,
+// `elimination_step` and `compile_chains`.
+use compile_chains::divisor_operation;
+use compile_lists::operations::Operations;
+use elimination_rows::rows::Rows;
+use elimination_scores::signs;
+use elimination_step::RowsState;
+ghost use Prim.Native.Nat.{_≤_};
+ghost use Rattle.limits.specs.Limits.{maxColumns, maxOperations};
+ghost use Rattle.elimination_rows.specs.State.{rowsTerms, Ready};
+ghost use Rattle.elimination_rules.specs.Rows.{plainCount};
+ghost use Rattle.elimination_rules.specs.Elimination.{smallestFirst, elimination};
+ghost use Rattle.compile_plan.specs.Planned.{EliminatedOf};
+
+// One operation per divisor, the number of pairs replaced, and the remaining rows.
+pub struct Eliminated {
+    pub operations: Operations,
+    pub replacements: usize,
+    pub rows: Rows,
+}
+
+// Steps until the highest score is below 2. The table of signs serves the pick and the step.
+pub fn eliminate_rows(rows: Rows, n: u16) -> Eliminated
+    requires { ⌜ Ready n (rowsTerms rows) × (n ≤ maxColumns) × (plainCount (rowsTerms rows) ≤ maxOperations) ⌝ }
+    ensures { λ r. ⌜ EliminatedOf (elimination smallestFirst n (rowsTerms rows)) r ⌝ }
+{
+    let mut state = RowsState { rows, symbol: n };
+    let mut operations = Operations::empty();
+    let mut replacements: usize = 0;
+    loop {
+        let left = state.rows;
+        let signs = signs::sign_table(left);
+        let best = elimination_pick::pick(&signs, left);
+        let divisor = best.divisor;
+        let score = best.score;
+        if score < 2 {
+            return Eliminated {
+                operations,
+                replacements,
+                rows: left,
+            };
+        }
+        operations = operations.push(divisor_operation(divisor));
+        replacements += score;
+        state = state.step(&signs, divisor);
+    }
+}

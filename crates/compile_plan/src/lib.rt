@@ -1,0 +1,42 @@
+// Document 01, "Elimination" and "Netlist and board machine": the operations and outputs of a matrix record, without widths, and what
+// compile counts. Rests on `elimination_pick`, `elimination_step`, `compile_chains` and `layout_matrix`.
+pub mod rows; // rows.rt: the rows of a matrix record
+pub mod eliminated; // eliminated.rt: elimination to its end
+
+use compile_lists::operations::Operations;
+use compile_lists::outputs::Outputs;
+ghost use mathlib.Core.Path.{_≡_};
+ghost use Rattle.layout_rules.specs.Matrix.{matrixRefusal};
+ghost use Rattle.compile_plan.specs.Planned.{PlannedOf};
+
+pub struct Planned {
+    pub operations: Operations,
+    pub outputs: Outputs,
+    pub plain: usize,
+    pub divisors: usize,
+    pub replacements: usize,
+}
+
+// Of a record that is not declined.
+pub fn plan(matrix: &[u8]) -> Planned
+    requires { ⌜ matrixRefusal (now matrix) ≡ 0 ⌝ }
+    ensures { λ r. ⌜ PlannedOf (now (matrix .entry)) r ⌝ }
+{
+    let m = matrix[4] as usize;
+    let n = matrix[5] as usize;
+    let first = rows::matrix_rows(matrix, m, n);
+    let plain = compile_chains::plain_count(first);
+    let end = eliminated::eliminate_rows(first, n as u16);
+    let made = end.operations;
+    let remaining = end.rows;
+    let count = made.count();
+    let operations = compile_chains::with_chains(made, remaining, n);
+    let outputs = compile_chains::row_outputs(remaining, (n + count) as u16);
+    Planned {
+        operations,
+        outputs,
+        plain,
+        divisors: count,
+        replacements: end.replacements,
+    }
+}

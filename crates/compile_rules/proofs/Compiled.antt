@@ -1,0 +1,149 @@
+-- Document 01, "Netlist and board machine": what is proved of any sequence of steps, said of the netlist of a matrix within the limits, and
+-- of compile's netlist, bytes and answer.
+-- Assumes nothing.
+use Prim.Native.Nat.{ℕ, suc, _+_, _≤_, _<_}
+use mathlib.Core.Path.{_≡_, refl, ap, _∙_}
+use mathlib.Core.List.{List, [], _∷_, _++_, map}
+use native.Mathlib.Omega.{arith}
+use lib.IntN.{ℤ}
+use lib.ListN.{length, drop}
+use borrow.Author.Tests.{lt-ltb, le-ltb}
+use Rattle.limits.specs.Limits.{positions, sampleWidth, maxOperations, columnBits}
+use Rattle.limits.proofs.Numbers.{columns-in-bits}
+use Rattle.layout_rules.specs.declared.Operation.{Operation}
+use Rattle.layout_rules.specs.declared.Output.{Output}
+use Rattle.layout_rules.specs.Matrix.{matrixRefusal, matrix, rows, columns}
+use Rattle.layout_rules.specs.Records.{headLength}
+use Rattle.layout_rules.specs.Places.{netlistLength, enoughBytes}
+use Rattle.layout_rules.proofs.LittleEndian.{AreBytes}
+use Rattle.board_rules.specs.Machine.{machine, outputValue, times, depth}
+use Rattle.board_rules.specs.Netlist.{IsNetlist}
+use Rattle.board_rules.proofs.DepthLaws.{depth-at-most}
+use Rattle.elimination_rules.specs.Rows.{Row, matrixRows, plainCount}
+use Rattle.elimination_rules.specs.Elimination.{Eliminated, smallestFirst, matrixElimination}
+use Rattle.elimination_rules.proofs.Order.{Columns, matrix-well-formed}
+use Rattle.elimination_rules.proofs.Counts.{plain-within, steps-twice}
+use Rattle.elimination_rules.proofs.Elimination.{steps-of}
+use Rattle.compile_rules.specs.Compile.{operationsOf, outputsOf, outputWithWidth, netlistOf, compileRefused, eliminationOf, compiledNetlist, compiledBytes, compileAccepted, compileAnswer, compileBuffer}
+use Rattle.compile_rules.specs.Compiled.{compiledLimits, AcceptedAnswer}
+use Rattle.compile_rules.specs.Limits.{WithinLimits}
+use Rattle.compile_rules.proofs.Limits.{rows-columns, accepted-within}
+use Rattle.compile_rules.proofs.Counts.{Stepped, operations-count, operations-fewer, netlist-length}
+use Rattle.compile_rules.proofs.Values.{machine-times}
+use Rattle.compile_rules.proofs.Widths.{machine-with-widths}
+use Rattle.compile_rules.proofs.Netlist.{compiled-netlist}
+use Rattle.compile_rules.proofs.Narrow.{narrow}
+
+-- ---- a matrix within the limits, after any sequence of steps
+
+pub length-matrix-rows : (p : ℕ) (m : List (List ℤ)) → length (matrixRows p m) ≡ length m
+unfolding matrixRows
+length-matrix-rows p [] = refl
+length-matrix-rows p (row ∷ m) = ap suc (length-matrix-rows p m)
+
+outputs-with-widths : (s n : ℕ) (os : List Operation) (entries : List ℤ) (outputs : List Output)
+    → map (outputValue entries) (map (outputWithWidth s n os) outputs) ≡ map (outputValue entries) outputs
+outputs-with-widths s n os entries [] = refl
+outputs-with-widths s n os entries (o ∷ outputs) = ap (λ l. outputValue entries o ∷ l) (outputs-with-widths s n os entries outputs)
+
+module _ (p s m n : ℕ) (coefficients : List (List ℤ)) (e : Eliminated) (some : 1 ≤ p) (within : WithinLimits p m n coefficients)
+    (steps : Stepped n (matrixRows p coefficients) e) where
+  -- the board machine takes operations and outputs from the netlist: its outputs are row times vector
+  pub netlist-times : (xs : List ℤ) → length xs ≡ n
+      → map (outputValue (machine xs (netlistOf s m n e .operations))) (netlistOf s m n e .outputs) ≡ map (λ row. times row xs) coefficients
+  unfolding netlistOf
+  netlist-times xs l =
+      let os : List Operation = operationsOf n e in
+      ap (λ entries. map (outputValue entries) (map (outputWithWidth s n os) (outputsOf n e))) (machine-with-widths s n os n os xs)
+      ∙ outputs-with-widths s n os (machine xs os) (outputsOf n e)
+      ∙ machine-times p n coefficients e some (within .coefficients) steps xs l
+
+  pub netlist-compiled : (most : ℕ) → 1 ≤ s → plainCount (matrixRows p coefficients) ≤ most
+      → IsNetlist (record { sample = s; positions = p; widest = p + s + columnBits; most = most }) (netlistOf s m n e)
+  netlist-compiled most bits plain =
+      let limited : Columns n coefficients = rows-columns p n coefficients (within .coefficients) in
+      compiled-netlist (record { sample = s; positions = p; widest = p + s + columnBits; most = most }) n (matrixRows p coefficients) e some
+      (matrix-well-formed p n coefficients limited) steps
+      (narrow p n coefficients e some limited steps s columnBits bits (omega (arith, within .limits .columns-most, columns-in-bits)))
+      m (within .limits) (length-matrix-rows p coefficients ∙ within .one-per-row) plain
+
+-- ---- a matrix record that compile does not refuse
+
+module _ (bytes : List ℕ) (all : AreBytes bytes) (accepted : matrixRefusal bytes ≡ 0) where
+  pub limits : WithinLimits positions (rows bytes) (columns bytes) (matrix bytes)
+  limits = accepted-within bytes all accepted
+
+  pub steps : Stepped (columns bytes) (matrixRows positions (matrix bytes)) (eliminationOf bytes)
+  unfolding matrixElimination
+  steps = steps-of smallestFirst positions (columns bytes) (matrix bytes)
+
+  pub plain-most : plainCount (matrixRows positions (matrix bytes)) ≤ maxOperations
+  plain-most = plain-within (columns bytes) (matrix bytes) (rows-columns positions (columns bytes) (matrix bytes) (limits .coefficients)) (limits .limits .columns-most)
+      (omega (arith, limits .one-per-row, limits .limits .rows-most))
+
+  -- for every vector of samples the board machine's outputs are row times vector
+  pub compiled-times : (xs : List ℤ) → length xs ≡ columns bytes
+      → map (outputValue (machine xs (compiledNetlist bytes .operations))) (compiledNetlist bytes .outputs) ≡ map (λ row. times row xs) (matrix bytes)
+  compiled-times = netlist-times positions sampleWidth (rows bytes) (columns bytes) (matrix bytes) (eliminationOf bytes) (omega arith) limits steps
+
+  -- shifts, widths and the number of operations within the limits, operands earlier, widths and totals right
+  pub compiled-is : IsNetlist compiledLimits (compiledNetlist bytes)
+  compiled-is = netlist-compiled positions sampleWidth (rows bytes) (columns bytes) (matrix bytes) (eliminationOf bytes) (omega arith) limits steps maxOperations (omega arith) plain-most
+
+  compiled-rows : length (matrixRows positions (matrix bytes)) ≡ rows bytes
+  compiled-rows = length-matrix-rows positions (matrix bytes) ∙ limits .one-per-row
+
+  pub compiled-answer : AcceptedAnswer (rows bytes) maxOperations (compileAccepted bytes)
+  unfolding netlistOf
+  compiled-answer =
+      let n : ℕ = columns bytes in
+      let e : Eliminated = eliminationOf bytes in
+      let first : List Row = matrixRows positions (matrix bytes) in
+      record {
+        refusal = refl;
+        place = refl;
+        operations = operations-count n first e steps;
+        replacements = steps-twice steps;
+        fewer = operations-fewer n first e steps;
+        plain = plain-most;
+        written = netlist-length sampleWidth (rows bytes) n first e steps ∙ ap (λ (m : ℕ). netlistLength headLength (length (operationsOf n e)) m) compiled-rows;
+        depth = depth-at-most n (operationsOf n e);
+      }
+
+  pub compiled-operations : compileAccepted bytes .operations ≤ maxOperations
+  compiled-operations = omega (arith, compiled-answer .fewer, compiled-answer .plain)
+
+  pub compiled-length : length (compiledBytes bytes) ≤ enoughBytes
+  compiled-length = omega (arith, compiled-answer .written, compiled-operations, limits .limits .rows-most)
+
+-- ---- the answer and the buffer, case by case
+
+module _ (bytes : List ℕ) where
+  pub answer-refused : (r room : ℕ) → matrixRefusal bytes ≡ suc r → compileAnswer bytes room ≡ compileRefused (suc r)
+  unfolding compileAnswer
+  answer-refused r room e = rw (e, compileAnswer)
+
+  pub answer-short : (room : ℕ) → matrixRefusal bytes ≡ 0 → room < length (compiledBytes bytes) → compileAnswer bytes room ≡ compileRefused 6
+  unfolding compileAnswer
+  answer-short room e h = rw (e, lt-ltb room (length (compiledBytes bytes)) h, compileAnswer)
+
+  pub answer-accepted : (room : ℕ) → matrixRefusal bytes ≡ 0 → length (compiledBytes bytes) ≤ room → compileAnswer bytes room ≡ compileAccepted bytes
+  unfolding compileAnswer
+  answer-accepted room e h = rw (e, le-ltb room (length (compiledBytes bytes)) h, compileAnswer)
+
+  pub buffer-refused : (r : ℕ) (buffer : List ℕ) → matrixRefusal bytes ≡ suc r → compileBuffer bytes buffer ≡ buffer
+  unfolding compileBuffer
+  buffer-refused r buffer e = rw (e, compileBuffer)
+
+  pub buffer-short : (buffer : List ℕ) → matrixRefusal bytes ≡ 0 → length buffer < length (compiledBytes bytes) → compileBuffer bytes buffer ≡ buffer
+  unfolding compileBuffer
+  buffer-short buffer e h = rw (e, lt-ltb (length buffer) (length (compiledBytes bytes)) h, compileBuffer)
+
+  pub buffer-accepted : (buffer : List ℕ) → matrixRefusal bytes ≡ 0 → length (compiledBytes bytes) ≤ length buffer
+      → compileBuffer bytes buffer ≡ compiledBytes bytes ++ drop (length (compiledBytes bytes)) buffer
+  unfolding compileBuffer
+  buffer-accepted buffer e h = rw (e, le-ltb (length buffer) (length (compiledBytes bytes)) h, compileBuffer)
+
+-- "6,136 bytes always suffice."
+pub enough-room : (bytes : List ℕ) → AreBytes bytes → (room : ℕ) → matrixRefusal bytes ≡ 0 → enoughBytes ≤ room → compileAnswer bytes room ≡ compileAccepted bytes
+enough-room bytes all room e h = answer-accepted bytes room e (omega (arith, compiled-length bytes all e))

@@ -1,0 +1,76 @@
+-- Document 01, "Netlist and board machine": how many operations, outputs and bytes a netlist has, after any sequence of steps.
+-- Assumes nothing.
+use Prim.Native.Nat.{ℕ, suc, _+_, _≤_}
+use mathlib.Core.Path.{_≡_, refl, ap, _∙_}
+use mathlib.Core.List.{List, [], _∷_, map}
+use native.Mathlib.Omega.{arith}
+use lib.ListN.{length, length-append, length-map}
+use Rattle.layout_rules.specs.declared.Operation.{Operation}
+use Rattle.layout_rules.specs.Records.{headLength, netlistBytes}
+use Rattle.layout_rules.specs.Places.{netlistLength}
+use Rattle.layout_rules.proofs.Lengths.{length-netlist}
+use Rattle.elimination_rules.specs.declared.Divisor.{Divisor}
+use Rattle.elimination_rules.specs.Rows.{Row, plainCount}
+use Rattle.elimination_rules.specs.Elimination.{Eliminated, rowsAfter}
+use Rattle.elimination_rules.specs.Steps.{Steps, end, step}
+use Rattle.elimination_rules.proofs.Counts.{steps-operations, steps-twice}
+use Rattle.compile_rules.specs.Chains.{divisorOperation, chains}
+use Rattle.compile_rules.specs.Compile.{operationsOf, outputsOf, withWidths, outputWithWidth, netlistOf}
+use Rattle.compile_rules.proofs.Sums.{summed-rows-length, summed-rows-outputs}
+use Rattle.compile_rules.proofs.Chains.{remaining-summed}
+
+-- e is what some sequence of steps from the rows gives, with the inputs as the symbols below n
+abbrev pub Stepped : ℕ → List Row → Eliminated → Type 0
+Stepped n rows e = Steps n rows (e .divisors) (e .replacements) (e .remainingRows)
+
+-- ---- operations: one for each divisor, and (terms − 1) for each remaining row
+
+pub length-operations : (n : ℕ) (e : Eliminated) → length (operationsOf n e) ≡ length (e .divisors) + plainCount (e .remainingRows)
+unfolding operationsOf
+length-operations n e =
+    let ds : List Operation = map divisorOperation (e .divisors) in
+    let next : ℕ = n + length (e .divisors) in
+    omega (arith, length-append ds (chains next (e .remainingRows)), length-map (e .divisors) divisorOperation, summed-rows-length (remaining-summed n e))
+
+-- operations = plain + divisors − replacements
+pub operations-count : (n : ℕ) (rows : List Row) (e : Eliminated) → Stepped n rows e
+    → length (operationsOf n e) + e .replacements ≡ plainCount rows + length (e .divisors)
+operations-count n rows e s = omega (arith, length-operations n e, steps-operations s)
+
+-- each step replaces at least two pairs, so operations ≤ plain − divisors
+pub operations-fewer : (n : ℕ) (rows : List Row) (e : Eliminated) → Stepped n rows e → length (operationsOf n e) + length (e .divisors) ≤ plainCount rows
+operations-fewer n rows e s = omega (arith, operations-count n rows e s, steps-twice s)
+
+-- ---- outputs: one for each row
+
+length-rows-after : (symbol : ℕ) (d : Divisor) (rows : List Row) → length (rowsAfter symbol d rows) ≡ length rows
+unfolding rowsAfter
+length-rows-after symbol d [] = refl
+length-rows-after symbol d (r ∷ rows) = ap suc (length-rows-after symbol d rows)
+
+steps-rows : {symbol : ℕ} {rows : List Row} {ds : List Divisor} {k : ℕ} {after : List Row} → Steps symbol rows ds k after → length after ≡ length rows
+steps-rows end = refl
+steps-rows {symbol} {rows} (step d h more) = steps-rows more ∙ length-rows-after symbol d rows
+
+pub length-outputs : (n : ℕ) (rows : List Row) (e : Eliminated) → Stepped n rows e → length (outputsOf n e) ≡ length rows
+length-outputs n rows e s = summed-rows-outputs (remaining-summed n e) ∙ steps-rows s
+
+-- ---- the netlist: widths add nothing
+
+pub length-with-widths : (s n : ℕ) (all : List Operation) (symbol : ℕ) (os : List Operation) → length (withWidths s n all symbol os) ≡ length os
+unfolding withWidths
+length-with-widths s n all symbol [] = refl
+length-with-widths s n all symbol (o ∷ os) = ap suc (length-with-widths s n all (suc symbol) os)
+
+pub netlist-operations : (s m n : ℕ) (e : Eliminated) → length (netlistOf s m n e .operations) ≡ length (operationsOf n e)
+unfolding netlistOf
+netlist-operations s m n e = length-with-widths s n (operationsOf n e) n (operationsOf n e)
+
+pub netlist-outputs : (s m n : ℕ) (rows : List Row) (e : Eliminated) → Stepped n rows e → length (netlistOf s m n e .outputs) ≡ length rows
+unfolding netlistOf
+netlist-outputs s m n rows e h = length-map (outputsOf n e) (outputWithWidth s n (operationsOf n e)) ∙ length-outputs n rows e h
+
+pub netlist-length : (s m n : ℕ) (rows : List Row) (e : Eliminated) → Stepped n rows e
+    → length (netlistBytes (netlistOf s m n e)) ≡ netlistLength headLength (length (operationsOf n e)) (length rows)
+netlist-length s m n rows e h =
+    omega (arith, length-netlist (netlistOf s m n e), netlist-operations s m n e, netlist-outputs s m n rows e h)

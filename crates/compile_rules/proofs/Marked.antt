@@ -1,0 +1,37 @@
+-- Document 01's marked banks, proved of the rules themselves, by computation.
+-- Assumes nothing.
+use mathlib.Core.Path.{refl}
+use mathlib.Core.Bool.{xor}
+use mathlib.Core.List.{flatMap}
+use Rattle.digits.proofs.Marked.{marked-digits}
+use Rattle.elimination_rules.specs.Rows.{matrixRows, plainCount}
+use Rattle.elimination_rules.specs.Elimination.{matrixElimination}
+use Rattle.elimination_rules.proofs.Marked.{marked-elimination}
+use Rattle.layout_rules.specs.Matrix.{matrixRefusal, matrix, rowsFrom, coefficientsFrom, coefficientAt, signedWord}
+use Rattle.layout_rules.specs.Records.{headPayload, operationPayload, outputPayload, totalsPayload, netlistBytes}
+use Rattle.board_rules.specs.Machine.{entryForm, outputForm, depth}
+use Rattle.board_rules.specs.Width.{width}
+use Rattle.board_rules.proofs.Marked.{marked-widths}
+use Rattle.compile_rules.specs.Chains.{signField, chainFrom, chain, chains, rowOutput, rowOutputs}
+use Rattle.compile_rules.specs.Compile.{operationsOf, outputsOf, withWidths, netlistOf, compileAnswer}
+use Rattle.compile_rules.specs.Marked.{MarkedBanks}
+
+pub marked-banks : MarkedBanks
+unfolding xor flatMap matrixRows plainCount matrixElimination matrixRefusal matrix rowsFrom coefficientsFrom coefficientAt signedWord headPayload operationPayload outputPayload totalsPayload netlistBytes entryForm outputForm depth width signField chainFrom chain chains rowOutput rowOutputs operationsOf outputsOf withWidths netlistOf compileAnswer
+marked-banks = record {
+  digits = marked-digits;
+  elimination = marked-elimination;
+  operations-21 = refl;
+  operations-85 = refl;
+  operations-1365 = refl;
+  plain-1365 = refl;
+  operations-four = refl;
+  depth-four = refl;
+  widths = marked-widths;
+  compiled-sum = refl;
+  compiled-negated = refl;
+  compiled-eight = refl;
+  output-eight = refl;
+  bytes-three = refl;
+  answer-three = refl;
+}

@@ -1,0 +1,98 @@
+-- Document 01, "Netlist and board machine" and "Why a record was declined": the netlist of a matrix, and compile's answer.
+-- Assumes nothing.
+use Prim.Native.Nat.{ℕ, zero, suc, _+_}
+use mathlib.Core.Bool.{true, false}
+use mathlib.Core.List.{List, [], _∷_, _++_, map}
+use lib.Dec.{ltb}
+use lib.ListN.{length, drop}
+use Rattle.limits.specs.Limits.{positions, sampleWidth}
+use Rattle.elimination_rules.specs.Rows.{matrixRows, plainCount}
+use Rattle.elimination_rules.specs.Elimination.{Eliminated, matrixElimination}
+use Rattle.layout_rules.specs.declared.Operation.{Operation}
+use Rattle.layout_rules.specs.declared.Output.{Output}
+use Rattle.layout_rules.specs.Matrix.{matrixRefusal, matrix, rows, columns}
+use Rattle.layout_rules.specs.Records.{Netlist, netlistBytes}
+use Rattle.board_rules.specs.Machine.{entryForm, outputForm, depth}
+use Rattle.board_rules.specs.Width.{width}
+use Rattle.compile_rules.specs.Chains.{divisorOperation, chains, rowOutputs}
+use Rattle.compile_rules.specs.declared.CompileAnswer.{CompileAnswer}
+
+-- ---- the netlist of a matrix with n columns
+
+-- first one operation per divisor, then per remaining row its chain
+unfoldable pub operationsOf : ℕ → Eliminated → List Operation
+operationsOf n e =
+    map divisorOperation (e .divisors) ++ chains (n + length (e .divisors)) (e .remainingRows)
+
+unfoldable pub outputsOf : ℕ → Eliminated → List Output
+outputsOf n e = rowOutputs (n + length (e .divisors)) (e .remainingRows)
+
+abbrev pub withWidth : ℕ → Operation → Operation
+withWidth w o = record { sign = o .sign; a = o .a; sa = o .sa; b = o .b; sb = o .sb; width = w }
+
+-- the operations from a symbol on, each with its width among all operations, over samples of s bits
+unfoldable pub withWidths : ℕ → ℕ → List Operation → ℕ → List Operation → List Operation
+withWidths s n all symbol [] = []
+withWidths s n all symbol (o ∷ os) = withWidth (width s (entryForm n all symbol)) o ∷ withWidths s n all (suc symbol) os
+
+abbrev pub outputWithWidth : ℕ → ℕ → List Operation → Output → Output
+outputWithWidth s n os o = record { sign = o .sign; symbol = o .symbol; shift = o .shift; width = width s (outputForm n os o) }
+
+unfoldable pub netlistOf : ℕ → ℕ → ℕ → Eliminated → Netlist
+unfolding operationsOf outputsOf withWidths
+netlistOf s m n e =
+    let os = operationsOf n e in
+    record {
+      head = record { m = m; n = n; operations = length os };
+      operations = withWidths s n os n os;
+      outputs = map (outputWithWidth s n os) (outputsOf n e);
+      totals = record { operations = length os; depth = depth n os };
+    }
+
+-- ---- compile's answer
+
+abbrev pub compileRefused : ℕ → CompileAnswer
+compileRefused r =
+    record { refusal = r; place = 0; written = 0; operations = 0; plain = 0; divisors = 0; replacements = 0; depth = 0 }
+
+abbrev pub eliminationOf : List ℕ → Eliminated
+eliminationOf bytes = matrixElimination positions (columns bytes) (matrix bytes)
+
+abbrev pub compiledNetlist : List ℕ → Netlist
+compiledNetlist bytes = netlistOf sampleWidth (rows bytes) (columns bytes) (eliminationOf bytes)
+
+abbrev pub compiledBytes : List ℕ → List ℕ
+compiledBytes bytes = netlistBytes (compiledNetlist bytes)
+
+abbrev pub compileAccepted : List ℕ → CompileAnswer
+compileAccepted bytes =
+    record {
+      refusal = 0;
+      place = 0;
+      written = length (compiledBytes bytes);
+      operations = compiledNetlist bytes .head .operations;
+      plain = plainCount (matrixRows positions (matrix bytes));
+      divisors = length (eliminationOf bytes .divisors);
+      replacements = eliminationOf bytes .replacements;
+      depth = compiledNetlist bytes .totals .depth;
+    }
+
+-- 1 to 5, then 6: the output buffer, of so many bytes, is shorter than the netlist
+unfoldable pub compileAnswer : List ℕ → ℕ → CompileAnswer
+compileAnswer bytes room =
+    elim (matrixRefusal bytes) [
+      | suc r ↦ compileRefused (suc r)
+      | zero ↦ elim (ltb room (length (compiledBytes bytes))) [ true ↦ compileRefused 6 | false ↦ compileAccepted bytes ]
+    ]
+
+-- the buffer afterwards: the netlist's bytes followed by the old bytes, or the old bytes where compile refuses
+unfoldable pub compileBuffer : List ℕ → List ℕ → List ℕ
+compileBuffer bytes buffer =
+    elim (matrixRefusal bytes) [
+      | suc r ↦ buffer
+      | zero ↦
+          elim (ltb (length buffer) (length (compiledBytes bytes))) [
+            | true ↦ buffer
+            | false ↦ compiledBytes bytes ++ drop (length (compiledBytes bytes)) buffer
+          ]
+    ]

@@ -1,0 +1,64 @@
+-- Document 01, "Marked banks": the one table.
+-- Assumes nothing.
+use Prim.Native.Nat.{ℕ}
+use mathlib.Core.Path.{_≡_}
+use mathlib.Core.List.{List, [], _∷_}
+use lib.IntN.{ℤ, pos, negsuc}
+use lib.ListN.{replicate}
+use Rattle.limits.specs.Limits.{positions, sampleWidth}
+use Rattle.digits.specs.Marked.{MarkedDigits}
+use Rattle.elimination_rules.specs.Rows.{matrixRows, plainCount}
+use Rattle.elimination_rules.specs.Elimination.{matrixElimination}
+use Rattle.elimination_rules.specs.Marked.{MarkedElimination, single, fourByFour}
+use Rattle.layout_rules.specs.Records.{Netlist}
+use Rattle.board_rules.specs.Marked.{MarkedWidths, sumOfTwo, negatedSample, chainOfEight, negatedChain}
+use Rattle.compile_rules.specs.Compile.{netlistOf, compiledBytes, compileAnswer}
+use Rattle.compile_rules.specs.declared.CompileAnswer.{CompileAnswer}
+
+-- the netlist of a matrix of m rows and n columns
+abbrev pub netlistFor : ℕ → ℕ → List (List ℤ) → Netlist
+netlistFor m n matrix = netlistOf sampleWidth m n (matrixElimination positions n matrix)
+
+-- 0A 00 01 00 01 02 03 00 FD FF (row 3, −3)
+abbrev pub threeMinusThreeRecord : List ℕ
+threeMinusThreeRecord = 0x0A ∷ 0x00 ∷ 0x01 ∷ 0x00 ∷ 0x01 ∷ 0x02 ∷ 0x03 ∷ 0x00 ∷ 0xFD ∷ 0xFF ∷ []
+
+-- a head: 1 output, 2 inputs, 2 operations; 2 = 0<<0 - 1<<0 width 17; 3 = 2<<0 - 2<<2 width 19; row 0 = -3<<0 width 19; totals
+abbrev pub threeMinusThreeNetlist : List ℕ
+threeMinusThreeNetlist =
+    0x08 ∷ 0x00 ∷ 0x02 ∷ 0x00 ∷ 0x01 ∷ 0x02 ∷ 0x02 ∷ 0x00
+    ∷ 0x0C ∷ 0x00 ∷ 0x03 ∷ 0x00 ∷ 0x01 ∷ 0x00 ∷ 0x00 ∷ 0x00 ∷ 0x01 ∷ 0x00 ∷ 0x00 ∷ 17
+    ∷ 0x0C ∷ 0x00 ∷ 0x03 ∷ 0x00 ∷ 0x01 ∷ 0x02 ∷ 0x00 ∷ 0x00 ∷ 0x02 ∷ 0x00 ∷ 0x02 ∷ 19
+    ∷ 0x09 ∷ 0x00 ∷ 0x04 ∷ 0x00 ∷ 0x01 ∷ 0x03 ∷ 0x00 ∷ 0x00 ∷ 19
+    ∷ 0x08 ∷ 0x00 ∷ 0x05 ∷ 0x00 ∷ 0x02 ∷ 0x00 ∷ 0x02 ∷ 0x00
+    ∷ []
+
+-- operations 2 plain 3 divisors 1 replacements 2 depth 2
+abbrev pub threeMinusThreeAnswer : CompileAnswer
+threeMinusThreeAnswer =
+    record { refusal = 0; place = 0; written = 49; operations = 2; plain = 3; divisors = 1; replacements = 2; depth = 2 }
+
+pub record MarkedBanks : Type 0 where
+  -- 0 none; 6 = 8 − 2; 23 = 32 − 8 − 1; 32,767 = 2^15 − 1; −32,768 = −2^15; 21,845 has eight
+  pub digits : MarkedDigits
+  -- 21: score 1, no divisor; 85: 1 + L^2 taken at 0 and 4; 1,365: at 0, 4, 8; four rows: plain 12, four divisors, 8 replacements
+  pub elimination : MarkedElimination
+  -- 1 by 1 matrix 21: 2 operations
+  pub operations-21 : netlistFor 1 1 (single 21) .head .operations ≡ 2
+  -- 85: 2 operations
+  pub operations-85 : netlistFor 1 1 (single 85) .head .operations ≡ 2
+  -- 1,365: 3 operations against 5 plain
+  pub operations-1365 : netlistFor 1 1 (single 1365) .head .operations ≡ 3
+  pub plain-1365 : plainCount (matrixRows positions (single 1365)) ≡ 5
+  -- rows 1 1 1 1, 2 1 −1 −2, 1 −1 −1 1, 1 −2 2 −1: 8 operations, depth 2
+  pub operations-four : netlistFor 4 4 fourByFour .head .operations ≡ 8
+  pub depth-four : netlistFor 4 4 fourByFour .totals .depth ≡ 2
+  -- width of x0 + x1 is 17, of −x0 17, of eight times −32,768 summed 35; and these are what such matrices are compiled to
+  pub widths : MarkedWidths
+  pub compiled-sum : netlistFor 1 2 ((pos 1 ∷ pos 1 ∷ []) ∷ []) .operations ≡ sumOfTwo
+  pub compiled-negated : netlistFor 1 1 ((negsuc 0 ∷ []) ∷ []) .outputs ≡ negatedSample ∷ []
+  pub compiled-eight : netlistFor 1 8 (replicate 8 (negsuc 32767) ∷ []) .operations ≡ chainOfEight
+  pub output-eight : netlistFor 1 8 (replicate 8 (negsuc 32767) ∷ []) .outputs ≡ negatedChain ∷ []
+  -- row 3, −3
+  pub bytes-three : compiledBytes threeMinusThreeRecord ≡ threeMinusThreeNetlist
+  pub answer-three : compileAnswer threeMinusThreeRecord 49 ≡ threeMinusThreeAnswer

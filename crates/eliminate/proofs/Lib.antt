@@ -1,9 +1,0 @@
-pub mod Filled
-pub mod Members
-pub mod Columns
-pub mod Ready
-pub mod Places
-pub mod SignTable
-pub mod Scoring
-pub mod Picking
-pub mod Stepping

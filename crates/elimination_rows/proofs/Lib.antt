@@ -1,0 +1,4 @@
+pub mod Filled
+pub mod Members
+pub mod Columns
+pub mod Ready

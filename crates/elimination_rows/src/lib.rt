@@ -1,0 +1,3 @@
+// Document 01, "Digits and terms" and "Elimination": the rows state, by value. Rests on `limits`, `term`, `digits` and `elimination_lookup`.
+pub mod row; // row.rt: a row of terms
+pub mod rows; // rows.rt: the rows state

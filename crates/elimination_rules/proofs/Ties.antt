@@ -1,0 +1,189 @@
+-- The order among equal scores. By a strict total order the pick is the first of those with the highest score, and nothing else is
+-- the pick, whatever way the pairs are gone through. Document 01's order is such an order.
+-- Assumes nothing.
+use Prim.Native.Nat.{ℕ, _≤_, _<_}
+use mathlib.Core.Path.{_≡_, refl, sym, _∙_, ap}
+use mathlib.Core.Logic.{_⊎_, inl, inr, ⊎-elim, _↔_}
+use mathlib.Core.Bool.{Bool, true, false, not, _&&_, true≢false, false≢true}
+use mathlib.Core.List.{List, [], _∷_, List·Memᴰ, List·Memᴰ·cases-cons, List·Memᴰ·not-nil}
+use native.Mathlib.Omega.{arith}
+use lib.Dec.{eqb, ltb}
+use borrow.Author.Tests.{eqb-true, eq-eqb, ltb-true, ltb-false, lt-ltb, not-true}
+use Rattle.elimination_rules.specs.declared.Divisor.{Divisor}
+use Rattle.elimination_rules.specs.Rows.{Row}
+use Rattle.elimination_rules.specs.Divisors.{Pair}
+use Rattle.elimination_rules.specs.Elimination.{Scored, scored, better, bestFrom, bestOf, allPairs, pick, smaller, before}
+use Rattle.elimination_rules.proofs.Tests.{by-bool, clash, and-left, and-right, and-both, or-left, or-right, or-cases, or-no-left}
+use Rattle.elimination_rules.proofs.Pick.{better-yes, better-no, NotWorse, pick-is}
+
+pub record StrictTotal (first : Divisor → Divisor → Bool) : Type 0 where
+  pub irreflexive : (d : Divisor) → first d d ≡ false
+  pub transitive : (d e f : Divisor) → first d e ≡ true → first e f ≡ true → first d f ≡ true
+  pub total : (d e : Divisor) → first d e ≡ false → (d ≡ e) ⊎ (first e d ≡ true)
+
+module _ (first : Divisor → Divisor → Bool) (order : StrictTotal first) where
+  not-worse-self : (s : Scored) → NotWorse first s s
+  not-worse-self s = inr (refl, order .irreflexive (s .divisor))
+
+  -- what is not before e, which is not before f, is not before f
+  not-before : (d e f : Divisor) → first d e ≡ false → first e f ≡ false → first d f ≡ false
+  not-before d e f h k = by-bool (first d f)
+      (λ t. ⊎-elim
+      (λ w. clash (ap (λ x. first x f) (sym w) ∙ t) k)
+      (λ r. clash (order .transitive e d f r t) k)
+      (order .total d e h))
+      (λ t. t)
+
+  not-worse : (b s t : Scored) → NotWorse first b s → (t .score < s .score) ⊎ ((t .score ≡ s .score) × (first (t .divisor) (s .divisor) ≡ false)) → NotWorse first b t
+  not-worse b s t (inl h) (inl k) = inl (omega arith)
+  not-worse b s t (inl h) (inr k) = inl (omega arith)
+  not-worse b s t (inr h) (inl k) = inl (omega arith)
+  not-worse b s t (inr h) (inr k) = inr (k .0 ∙ h .0, not-before (t .divisor) (s .divisor) (b .divisor) (k .1) (h .1))
+
+  -- what the better one beats
+  beaten : (s t : Scored) → better first t s ≡ true → (s .score < t .score) ⊎ ((s .score ≡ t .score) × (first (s .divisor) (t .divisor) ≡ false))
+  beaten s t e = ⊎-elim
+      inl
+      (λ h. inr (
+        sym (h .0),
+        by-bool (first (s .divisor) (t .divisor))
+            (λ k. clash (order .transitive (s .divisor) (t .divisor) (s .divisor) k (h .1)) (order .irreflexive (s .divisor)))
+            (λ k. k),
+      ))
+      (better-yes first t s e)
+
+  kept : (s t : Scored) → better first t s ≡ false → (t .score < s .score) ⊎ ((t .score ≡ s .score) × (first (t .divisor) (s .divisor) ≡ false))
+  kept s t e = let h = better-no first t s e in by-bool (ltb (t .score) (s .score))
+      (λ k. inl (ltb-true (t .score) (s .score) k))
+      (λ k. let q : t .score ≡ s .score = omega (arith, h .0, ltb-false (t .score) (s .score) k) in inr (q, h .1 q))
+
+  module _ (rows : List Row) where
+    best-from-first : (s : Scored) (ps : List Pair) → NotWorse first (bestFrom first rows s ps) s × ((p : Pair) → List·Memᴰ p ps → NotWorse first (bestFrom first rows s ps) (scored rows p))
+    unfolding bestFrom
+    best-from-first s [] = (not-worse-self s, λ p m. absurd (List·Memᴰ·not-nil m))
+    best-from-first s (q ∷ ps) = by-bool (better first (scored rows q) s)
+        (λ e. rw (e, bestFrom) (
+        let b : Scored = bestFrom first rows (scored rows q) ps in
+        let h = best-from-first (scored rows q) ps in (
+          not-worse b (scored rows q) s (h .0) (beaten s (scored rows q) e),
+          λ p m. ⊎-elim (λ w. rw w (h .0)) (λ k. h .1 p k) (List·Memᴰ·cases-cons m),
+        )
+        ))
+        (λ e. rw (e, bestFrom) (
+        let b : Scored = bestFrom first rows s ps in
+        let h = best-from-first s ps in (
+          h .0,
+          λ p m. ⊎-elim (λ w. rw w (not-worse b s (scored rows q) (h .0) (kept s (scored rows q) e))) (λ k. h .1 p k) (List·Memᴰ·cases-cons m),
+        )
+        ))
+
+    best-first : (ps : List Pair) (p : Pair) → List·Memᴰ p ps → NotWorse first (bestOf first rows ps) (scored rows p)
+    unfolding bestOf
+    best-first [] p m = absurd (List·Memᴰ·not-nil m)
+    best-first (q ∷ ps) p m = let h = best-from-first (scored rows q) ps in ⊎-elim (λ w. rw w (h .0)) (λ k. h .1 p k) (List·Memᴰ·cases-cons m)
+
+    -- the highest score, and of equal scores the first
+    pub pick-first : (p : Pair) → List·Memᴰ p (allPairs rows) → NotWorse first (pick first rows) (scored rows p)
+    unfolding pick
+    pick-first p m = best-first (allPairs rows) p m
+
+    -- and nothing else is that
+    same-divisors : (s t : Scored) → NotWorse first s t → NotWorse first t s → s ≡ t
+    same-divisors s t (inl h) (inl k) = absurd (omega arith)
+    same-divisors s t (inl h) (inr k) = absurd (omega arith)
+    same-divisors s t (inr h) (inl k) = absurd (omega arith)
+    same-divisors s t (inr h) (inr k) = ⊎-elim
+        (λ (w : s .divisor ≡ t .divisor). λ i. record { divisor = w i; score = k .0 i })
+        (λ r. clash r (h .1))
+        (order .total (s .divisor) (t .divisor) (k .1))
+
+    pub only-pick : (q : Pair) → List·Memᴰ q (allPairs rows) → ((p : Pair) → List·Memᴰ p (allPairs rows) → NotWorse first (scored rows q) (scored rows p)) → pick first rows ≡ scored rows q
+    only-pick q m h = ⊎-elim
+        (λ e. absurd (List·Memᴰ·not-nil (rw (e .0) at m)))
+        (λ e. e .2 ∙ same-divisors (scored rows (e .0)) (scored rows q) (rw (e .2) at (pick-first q m)) (h (e .0) (e .1)))
+        (pick-is first rows)
+
+-- ---- document 01's order: the smallest a, then b, then ea, then eb, then plus before minus
+
+-- in one of two pairs of numbers the first is smaller, or they are the same and what follows decides
+abbrev pub Smaller : ℕ → ℕ → Type 0 → Type 0
+Smaller x y Otherwise = (x < y) ⊎ ((x ≡ y) × Otherwise)
+
+abbrev pub Before : Divisor → Divisor → Type 0
+Before d e = Smaller (d .a) (e .a) (Smaller (d .b) (e .b) (Smaller (d .ea) (e .ea) (Smaller (d .eb) (e .eb) ((d .minus ≡ false) × (e .minus ≡ true)))))
+
+smaller-yes : (x y : ℕ) (b : Bool) → smaller x y b ≡ true → (x < y) ⊎ ((x ≡ y) × (b ≡ true))
+smaller-yes x y b h = ⊎-elim
+    (λ l. inl (ltb-true x y l))
+    (λ r. inr (eqb-true x y (and-left (eqb x y) b r), and-right (eqb x y) b r))
+    (or-cases (ltb x y) (eqb x y && b) h)
+
+yes-smaller : (x y : ℕ) (b : Bool) → (x < y) ⊎ ((x ≡ y) × (b ≡ true)) → smaller x y b ≡ true
+yes-smaller x y b (inl h) = or-left (ltb x y) (eqb x y && b) (lt-ltb x y h)
+yes-smaller x y b (inr h) = or-right (ltb x y) (eqb x y && b) (and-both (eqb x y) b (eq-eqb x y (h .0)) (h .1))
+
+smaller-self : (x : ℕ) (b : Bool) → b ≡ false → smaller x x b ≡ false
+smaller-self x b e = by-bool (smaller x x b) (λ h. ⊎-elim (λ l. absurd (omega arith)) (λ r. clash (r .1) e) (smaller-yes x x b h)) (λ h. h)
+
+smaller-transitive : (x y z : ℕ) (b c d : Bool) → (b ≡ true → c ≡ true → d ≡ true) → smaller x y b ≡ true → smaller y z c ≡ true → smaller x z d ≡ true
+smaller-transitive x y z b c d f h k = ⊎-elim
+    (λ l. ⊎-elim (λ m. yes-smaller x z d (inl (omega arith))) (λ m. yes-smaller x z d (inl (omega arith))) (smaller-yes y z c k))
+    (λ l. ⊎-elim (λ m. yes-smaller x z d (inl (omega arith))) (λ m. yes-smaller x z d (inr (l .0 ∙ m .0, f (l .1) (m .1)))) (smaller-yes y z c k))
+    (smaller-yes x y b h)
+
+smaller-total : {Q : Type 0} (x y : ℕ) (b c : Bool) → (b ≡ false → Q ⊎ (c ≡ true)) → smaller x y b ≡ false → ((x ≡ y) × Q) ⊎ (smaller y x c ≡ true)
+smaller-total x y b c f h = by-bool (eqb x y)
+    (λ e. ⊎-elim
+    (λ q. inl (eqb-true x y e, q))
+    (λ t. inr (yes-smaller y x c (inr (sym (eqb-true x y e), t))))
+    (f (by-bool b (λ t. clash (yes-smaller x y b (inr (eqb-true x y e, t))) h) (λ t. t))))
+    (λ e. inr (yes-smaller y x c (inl (above (ltb-false x y (or-no-left (ltb x y) (eqb x y && b) h)) (λ w. true≢false (sym (eq-eqb x y w) ∙ e))))))
+  where
+    above : {x y : ℕ} → y ≤ x → (x ≡ y → ⊥) → y < x
+    above l n = omega arith
+
+smaller-as : {Q : Type 0} (x y : ℕ) (b : Bool) → (b ≡ true → Q) → smaller x y b ≡ true → Smaller x y Q
+smaller-as x y b f h = ⊎-elim inl (λ r. inr (r .0, f (r .1))) (smaller-yes x y b h)
+
+as-smaller : {Q : Type 0} (x y : ℕ) (b : Bool) → (Q → b ≡ true) → Smaller x y Q → smaller x y b ≡ true
+as-smaller x y b f h = yes-smaller x y b (⊎-elim inl (λ r. inr (r .0, f (r .1))) h)
+
+pub before-is : (d e : Divisor) → (before d e ≡ true) ↔ Before d e
+before-is d e = (
+  smaller-as (d .a) (e .a) _ (smaller-as (d .b) (e .b) _ (smaller-as (d .ea) (e .ea) _ (smaller-as (d .eb) (e .eb) _
+      (λ h. (not-true (d .minus) (and-left (not (d .minus)) (e .minus) h), and-right (not (d .minus)) (e .minus) h))))),
+  as-smaller (d .a) (e .a) _ (as-smaller (d .b) (e .b) _ (as-smaller (d .ea) (e .ea) _ (as-smaller (d .eb) (e .eb) _
+      (λ h. and-both (not (d .minus)) (e .minus) (ap not (h .0)) (h .1))))),
+)
+
+plus-first-self : (m : Bool) → not m && m ≡ false
+plus-first-self true = refl
+plus-first-self false = refl
+
+plus-first-transitive : (l m n : Bool) → not l && m ≡ true → not m && n ≡ true → not l && n ≡ true
+plus-first-transitive true m n h k = h
+plus-first-transitive false true n h k = absurd (false≢true k)
+plus-first-transitive false false n h k = k
+
+plus-first-total : (m n : Bool) → not m && n ≡ false → (m ≡ n) ⊎ (not n && m ≡ true)
+plus-first-total true true h = inl refl
+plus-first-total true false h = inr refl
+plus-first-total false true h = absurd (true≢false h)
+plus-first-total false false h = inl refl
+
+pub before-order : StrictTotal before
+before-order = record {
+  irreflexive = λ d. smaller-self (d .a) _ (smaller-self (d .b) _ (smaller-self (d .ea) _ (smaller-self (d .eb) _ (plus-first-self (d .minus)))));
+  transitive = λ d e f.
+      smaller-transitive (d .a) (e .a) (f .a) _ _ _
+      (smaller-transitive (d .b) (e .b) (f .b) _ _ _
+      (smaller-transitive (d .ea) (e .ea) (f .ea) _ _ _
+      (smaller-transitive (d .eb) (e .eb) (f .eb) _ _ _ (plus-first-transitive (d .minus) (e .minus) (f .minus)))));
+  total = λ d e h. ⊎-elim
+      (λ w. inl (λ i. record { a = (w .0) i; b = (w .1 .0) i; ea = (w .1 .1 .0) i; eb = (w .1 .1 .1 .0) i; minus = (w .1 .1 .1 .1) i }))
+      inr
+      (smaller-total (d .a) (e .a) _ _
+      (smaller-total (d .b) (e .b) _ _
+      (smaller-total (d .ea) (e .ea) _ _
+      (smaller-total (d .eb) (e .eb) _ _ (plus-first-total (d .minus) (e .minus))))) h);
+}

@@ -1,0 +1,3 @@
+pub mod Places
+pub mod SignTable
+pub mod Scoring

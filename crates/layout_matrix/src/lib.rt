@@ -1,0 +1,57 @@
+// Document 01, "Matrix record" and "Why a record was declined": the matrix record, as `layout_rules` has it.
+use layout_records::little_endian::word_at;
+ghost use mathlib.Core.Path.{_≡_};
+ghost use Prim.Native.Nat.{_+_, _^_, _<_};
+ghost use lib.ListN.{length};
+ghost use Rattle.layout_rules.specs.Matrix.{matrixRefusal, coefficientAt, coefficientPlace, signedWord};
+
+// The coefficients stand behind n, 2 bytes each.
+fn coefficient_place(index: usize) -> usize
+    requires { ⌜ coefficientPlace index < 2 ^ 64 ⌝ }
+    ensures { λ r. ⌜ r ≡ coefficientPlace index ⌝ }
+{
+    6 + 2 * index
+}
+
+// The first of the refusals 1 to 5 that applies, 0 for none.
+pub fn matrix_refusal(bytes: &[u8]) -> u8
+    ensures { λ r. ⌜ r ≡ matrixRefusal (now (bytes .entry)) ⌝ }
+{
+    if bytes.len() < 6 {
+        return 1;
+    }
+    if word_at(bytes, 0) as usize != bytes.len() {
+        return 2;
+    }
+    if word_at(bytes, 2) != 1 {
+        return 3;
+    }
+    let m = bytes[4];
+    let n = bytes[5];
+    if limits::size_outside(m, n) {
+        return 4;
+    }
+    if bytes.len() != coefficient_place((m as usize) * (n as usize)) {
+        return 5;
+    }
+    0
+}
+
+// Two's complement of two bytes.
+pub fn signed_word(x: u16) -> i16
+    ensures { λ r. ⌜ r ≡ signedWord x ⌝ }
+{
+    if x < 32768 {
+        x as i16
+    } else {
+        -1 - ((65535 - x) as i16)
+    }
+}
+
+// The coefficient of an index, in the record's order.
+pub fn coefficient(bytes: &[u8], index: usize) -> i16
+    requires { ⌜ coefficientPlace index + 1 < length (now bytes) ⌝ }
+    ensures { λ r. ⌜ r ≡ coefficientAt (now (bytes .entry)) index ⌝ }
+{
+    signed_word(word_at(bytes, coefficient_place(index)))
+}

@@ -1,0 +1,60 @@
+-- Document 01, "Matrix record" and "Why a record was declined": refusals 1 to 5, and the matrix of a record.
+-- Assumes nothing.
+use Prim.Native.Nat.{ℕ, zero, suc, _+_, _*_}
+use mathlib.Core.Bool.{cond, not}
+use mathlib.Core.List.{List, [], _∷_}
+use lib.Dec.{ltb, eqb}
+use lib.IntN.{ℤ, pos, _-ℤ_}
+use lib.ListN.{length, getD}
+use Rattle.limits.specs.Size.{sizeOutside}
+use Rattle.layout_rules.specs.Bytes.{word}
+
+-- m and n, 1 byte each, after length and kind
+abbrev pub rows : List ℕ → ℕ
+rows bytes = getD bytes 4 0
+
+abbrev pub columns : List ℕ → ℕ
+columns bytes = getD bytes 5 0
+
+-- the coefficients stand behind n, 2 bytes each
+abbrev pub coefficientPlace : ℕ → ℕ
+coefficientPlace index = 6 + 2 * index
+
+-- "Length 6 + 2 times m times n"
+abbrev pub matrixLength : ℕ → ℕ → ℕ
+matrixLength m n = coefficientPlace (m * n)
+
+-- the first of the refusals 1 to 5 that applies, 0 for none
+unfoldable pub matrixRefusal : List ℕ → ℕ
+matrixRefusal bytes =
+    cond (ltb (length bytes) 6)
+    1
+    (cond (not (eqb (word bytes 0) (length bytes)))
+    2
+    (cond (not (eqb (word bytes 2) 1))
+    3
+    (cond (sizeOutside (rows bytes) (columns bytes))
+    4
+    (cond (not (eqb (length bytes) (matrixLength (rows bytes) (columns bytes)))) 5 0))))
+
+-- two's complement of two bytes
+unfoldable pub signedWord : ℕ → ℤ
+signedWord x = cond (ltb x 32768) (pos x) (pos x -ℤ pos 65536)
+
+-- the coefficient of an index, in the record's order
+unfoldable pub coefficientAt : List ℕ → ℕ → ℤ
+coefficientAt bytes index = signedWord (word bytes (coefficientPlace index))
+
+-- so many coefficients from an index on
+unfoldable pub coefficientsFrom : List ℕ → ℕ → ℕ → List ℤ
+coefficientsFrom bytes index zero = []
+coefficientsFrom bytes index (suc k) = coefficientAt bytes index ∷ coefficientsFrom bytes (index + 1) k
+
+-- so many rows of n coefficients from an index on
+unfoldable pub rowsFrom : List ℕ → ℕ → ℕ → ℕ → List (List ℤ)
+rowsFrom bytes n index zero = []
+rowsFrom bytes n index (suc k) = coefficientsFrom bytes index n ∷ rowsFrom bytes n (index + n) k
+
+-- m times n coefficients, row by row
+unfoldable pub matrix : List ℕ → List (List ℤ)
+matrix bytes = rowsFrom bytes (columns bytes) 0 (rows bytes)

@@ -1,6 +1,0 @@
-pub mod Decimal
-pub mod Wrote
-pub mod Lines
-pub mod Listed
-pub mod Records
-pub mod Marked

@@ -1,5 +1,0 @@
-pub mod Decimal
-pub mod Listing
-pub mod Wrote
-pub mod Records
-pub mod Marked

@@ -1,0 +1,4 @@
+pub mod Lines
+pub mod Listed
+pub mod Records
+pub mod Marked

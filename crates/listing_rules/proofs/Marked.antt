@@ -1,0 +1,10 @@
+-- The examples of what list-bank prints hold, by computation.
+-- Assumes nothing.
+use mathlib.Core.Path.{refl}
+use Rattle.text.specs.Decimal.{decimal, number}
+use Rattle.listing_rules.specs.Listing.{countsLine, operationLine, valueText, lines}
+use Rattle.listing_rules.specs.Marked.{MarkedListing}
+
+pub marked : MarkedListing
+unfolding decimal number countsLine operationLine valueText lines
+marked = record { row-3-minus-3 = refl; addition = refl; plus = refl; zero = refl; refused = refl; longest = refl }

@@ -1,0 +1,3 @@
+pub mod Listing
+pub mod Records
+pub mod Marked

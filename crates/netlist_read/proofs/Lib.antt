@@ -1,0 +1,3 @@
+-- Laws about the parts of read and the tables lent to them, lowest first.
+pub mod HeldLaws
+pub mod NetlistLaws

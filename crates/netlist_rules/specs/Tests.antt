@@ -1,0 +1,129 @@
+-- Document 01, "Why a record was declined": the tests of read, check and run in their order, each with the number and the place that
+-- are returned where it is the first that fails. Nothing here computes an answer; read, check and run are held to these lists.
+-- Assumes nothing.
+use Prim.Native.Nat.{ℕ, zero, suc, _+_, _≤_}
+use mathlib.Core.Path.{_≡_}
+use mathlib.Core.Logic.{_⊎_}
+use mathlib.Core.List.{List, [], _∷_, _++_}
+use lib.IntN.{ℤ}
+use lib.ListN.{length}
+use Rattle.limits.specs.Size.{SizeLimits}
+use Rattle.layout_rules.specs.declared.Head.{Head}
+use Rattle.layout_rules.specs.declared.Operation.{Operation}
+use Rattle.layout_rules.specs.Bytes.{word}
+use Rattle.layout_rules.specs.Matrix.{rows, columns, matrixLength, matrix}
+use Rattle.layout_rules.specs.Records.{Netlist, headKind, headLength, operationKind, operationLength, outputKind, outputLength, totalsKind, totalsLength}
+use Rattle.layout_rules.specs.Places.{operationPlace, outputPlace, headAt, operationAt, outputAt, totalsAt, firstOperations, operationsIn, totalsPlaceIn, netlistIn}
+use Rattle.layout_rules.specs.Step.{remaining}
+use Rattle.board_rules.specs.Machine.{machine, operationValue, outputValue}
+use Rattle.board_rules.specs.Netlist.{HeadLimits, OperationLimits, OutputLimits, WidthRight, TotalsRight}
+use Rattle.netlist_rules.specs.Exact.{readLimits, SameSize, ComputesRow}
+
+-- a test's number and place, and what holds where it passes
+pub record Test : Type 1 where
+  pub number : ℕ
+  pub place : ℕ
+  pub passes : Type 0
+
+abbrev pub tested : ℕ → ℕ → Type 0 → Test
+tested number place passes = record { number = number; place = place; passes = passes }
+
+abbrev pub AllPass : List Test → Type 0
+AllPass [] = Unit {0}
+AllPass (t ∷ ts) = t .passes × AllPass ts
+
+-- the first test that fails has this number and this place
+abbrev pub FirstFails : List Test → ℕ → ℕ → Type 0
+FirstFails [] number place = ⊥
+FirstFails (t ∷ ts) number place =
+    ((t .passes → ⊥) × (number ≡ t .number) × (place ≡ t .place)) ⊎ (t .passes × FirstFails ts number place)
+
+-- Below, a comment says in document 01's words when the test fails, and the statement what holds where it passes.
+
+-- ---- read: 7 to 12 record by record
+
+-- 7: under 4 bytes remain, or the length exceeds what remains
+pub record Whole (bytes : List ℕ) (place : ℕ) : Type 0 where
+  pub header : 4 ≤ remaining bytes place
+  pub within : word bytes place ≤ remaining bytes place
+
+-- 8: kind or length not the expected one
+pub record Expected (bytes : List ℕ) (place kind size : ℕ) : Type 0 where
+  pub its-kind : word bytes (place + 2) ≡ kind
+  pub its-length : word bytes place ≡ size
+
+abbrev pub recordTests : List ℕ → ℕ → ℕ → ℕ → List Test
+recordTests bytes place kind size = tested 7 place (Whole bytes place) ∷ tested 8 place (Expected bytes place kind size) ∷ []
+
+abbrev pub headTests : List ℕ → List Test
+headTests bytes = recordTests bytes 0 headKind headLength ++ (tested 9 0 (HeadLimits readLimits (headAt bytes)) ∷ [])
+
+-- the tests of the first k records of a kind
+unfoldable pub firstTests : (ℕ → List Test) → ℕ → List Test
+firstTests tests zero = []
+firstTests tests (suc k) = firstTests tests k ++ tests k
+
+-- operation k, behind the k operations before it
+abbrev pub operationTests : List ℕ → ℕ → ℕ → List Test
+operationTests bytes n k =
+    let place = operationPlace headLength k in
+    let o = operationAt bytes k in
+    let before = firstOperations bytes k in
+    recordTests bytes place operationKind operationLength
+    ++ (tested 9 place (OperationLimits readLimits (n + k) o) ∷ tested 10 place (WidthRight readLimits n (λ xs. operationValue (machine xs before) o) (o .width)) ∷ [])
+
+-- output i of a netlist of the operations os
+abbrev pub outputTests : List ℕ → ℕ → List Operation → ℕ → List Test
+outputTests bytes n os i =
+    let place = outputPlace headLength (length os) i in
+    let o = outputAt bytes (length os) i in
+    recordTests bytes place outputKind outputLength
+    ++ (tested 9 place (OutputLimits readLimits (n + length os) o) ∷ tested 10 place (WidthRight readLimits n (λ xs. outputValue (machine xs os) o) (o .width)) ∷ [])
+
+-- 11: totals differ from the head's count or the depth; 12, place after totals: bytes left over
+abbrev pub totalsTests : List ℕ → ℕ → Head → List Operation → List Test
+totalsTests bytes place h os =
+    recordTests bytes place totalsKind totalsLength
+    ++ (tested 11 place (TotalsRight h os (totalsAt bytes place)) ∷ tested 12 (place + totalsLength) (length bytes ≤ place + totalsLength) ∷ [])
+
+unfoldable pub readTests : List ℕ → List Test
+readTests bytes =
+    let h = headAt bytes in
+    let os = operationsIn bytes in
+    headTests bytes
+    ++ (firstTests (operationTests bytes (h .n)) (h .operations)
+    ++ (firstTests (outputTests bytes (h .n) os) (h .m)
+    ++ totalsTests bytes (totalsPlaceIn bytes) h os))
+
+-- ---- check: 1 to 5, 7 to 12, 13, 14
+
+-- 1: fewer than 6 bytes; 2: length field differs from the number of bytes lent; 3: kind is not 1; 4: m or n outside 1 to 8;
+-- 5: length is not 6 + 2 times m times n
+abbrev pub matrixTests : List ℕ → List Test
+matrixTests bytes =
+    tested 1 0 (6 ≤ length bytes)
+    ∷ tested 2 0 (word bytes 0 ≡ length bytes)
+    ∷ tested 3 0 (word bytes 2 ≡ 1)
+    ∷ tested 4 0 (SizeLimits (rows bytes) (columns bytes))
+    ∷ tested 5 0 (length bytes ≡ matrixLength (rows bytes) (columns bytes))
+    ∷ []
+
+-- 14, place = row: its coefficients differ, that is, output i is not row i times vector for every vector of samples
+abbrev pub rowTests : Netlist → List (List ℤ) → ℕ → List Test
+rowTests net rows i = tested 14 i (ComputesRow net rows i) ∷ []
+
+-- 13: m or n of matrix and netlist differ
+unfoldable pub checkTests : List ℕ → List ℕ → List Test
+checkTests matrixBytes netlistBytes =
+    let net = netlistIn netlistBytes in
+    matrixTests matrixBytes
+    ++ (readTests netlistBytes
+    ++ (tested 13 0 (SameSize matrixBytes (net .head)) ∷ firstTests (rowTests net (matrix matrixBytes)) (net .head .m)))
+
+-- ---- run: 7 to 12, 15, 16
+
+-- 15: samples are not n; 16: outputs lent are not m
+unfoldable pub runTests : List ℕ → ℕ → ℕ → List Test
+runTests bytes samples outputs =
+    let h = headAt bytes in
+    readTests bytes ++ (tested 15 0 (samples ≡ h .n) ∷ tested 16 0 (outputs ≡ h .m) ∷ [])

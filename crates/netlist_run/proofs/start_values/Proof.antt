@@ -1,0 +1,106 @@
+-- `netlist_run::start_values` meets its contract. The samples before j are in the table. Assumes nothing.
+use mathlib.Core.Path.{_≡_, refl, _∙_, subst}
+use Prim.Native.Nat.{ℕ, suc, _-_, _^_, _≤_, _<_}
+use mathlib.Core.List.{List}
+use native.Mathlib.Omega.{arith}
+use native.Mathlib.Decide.{decLt}
+use native.Mathlib.Numerals.{add-one}
+use lib.IntN.{ℤ, pos}
+use lib.ListN.{length, getD, take, length-set}
+use lib.Seq.{take-length}
+use lib.Signed.{mag}
+use mir.Syntax.{w16, w64}
+use mir.Val.{SFits, toZ, ofZ}
+use Rattle.limits.specs.Limits.{sampleWidth, maxSymbols}
+use Rattle.integers.proofs.Held.{is, held, need-cast, held-cast}
+use Rattle.board_rules.specs.Width.{Within}
+use Rattle.netlist_run.proofs.BoardLaws.{sample-within, sample-next}
+use Rattle.netlist_run.proofs.start_values.Statement.{statement}
+use Rattle.netlist_run.proofs.start_values.Tie as tie
+
+-- the samples seen so far are of their width
+abbrev Seen : List ℤ → ℕ → Type 0
+Seen samples j = (i : ℕ) → i < j → Within sampleWidth (getD samples i (pos 0))
+
+abbrev Inv-loop : tie.InvT-loop
+Inv-loop samples values₀ n j₀ values j = (j ≤ n) × ((length values ≡ maxSymbols) × ((take j values ≡ take j samples) × Seen samples j))
+
+abbrev μ-loop : tie.MeasureT-loop
+μ-loop samples values₀ n j₀ values j = n - j
+
+seen-next : (samples : List ℤ) (j : ℕ) → Seen samples j → Within sampleWidth (getD samples j (pos 0)) → Seen samples (suc j)
+seen-next samples j before here i h = go (decLt i j)
+  where
+    go : Dec (i < j) → Within sampleWidth (getD samples i (pos 0))
+    go (yes l) = before i l
+    go (no l) = let e : i ≡ j = omega arith in rw e here
+
+wider : (z : ℤ) → mag z < 2 ^ 15 → SFits w64 z
+wider z ok = record { sfits = omega (arith, ok) }
+
+fits-wide : (z : ℤ) → mag z < 2 ^ 15 → SFits w64 (toZ w16 (ofZ w16 z))
+fits-wide z ok = need-cast w64 (held (record { sfits = ok })) (wider z ok)
+
+copied : (z : ℤ) → mag z < 2 ^ 15 → toZ w64 (ofZ w64 (toZ w16 (ofZ w16 z))) ≡ z
+copied z ok = is (held-cast w64 (held (record { sfits = ok })) (wider z ok))
+
+loop-holds : tie.Need-loop-holds Inv-loop μ-loop
+loop-holds c = (omega arith, (c .pre .1, (refl, λ i h. absurd (omega arith))))
+
+mul-values : tie.Need-mul-values Inv-loop μ-loop
+mul-values c = omega arith
+
+shared-slice-copy-out-values : tie.Need-shared-slice-copy-out-values Inv-loop μ-loop
+shared-slice-copy-out-values c = omega arith
+
+cast-values : tie.Need-cast-values Inv-loop μ-loop
+cast-values c = let l = c .before .before in fits-wide (getD (l .before .args .samples .now) (l .loop .j) (pos 0)) (c .values .given)
+
+mul-t10 : tie.Need-mul-t10 Inv-loop μ-loop
+mul-t10 c = omega arith
+
+element-set-from-values : tie.Need-element-set-from-values Inv-loop μ-loop
+element-set-from-values c = omega arith
+
+add-j : tie.Need-add-j Inv-loop μ-loop
+add-j c = omega arith
+
+loop-less : tie.Need-loop-less Inv-loop μ-loop
+loop-less c = omega arith
+
+loop-again : tie.Need-loop-again Inv-loop μ-loop
+loop-again c = let l = c .before .before in let samples = l .before .args .samples .now in let j = l .loop .j in let z = getD samples j (pos 0) in
+    rw add-one (
+      omega arith,
+      (
+        length-set (l .loop .values) j (toZ w64 (ofZ w64 (toZ w16 (ofZ w16 z)))) ∙ l .loop .inv .1 .0,
+        (
+          sample-next samples (l .loop .values) j (toZ w64 (ofZ w64 (toZ w16 (ofZ w16 z)))) (omega arith) (omega arith) (copied z (c .values .given)) (l .loop .inv .1 .1 .0),
+          seen-next samples j (l .loop .inv .1 .1 .1) (sample-within z (c .values .given)),
+        ),
+      ),
+    )
+
+returns : tie.Need-returns Inv-loop μ-loop
+returns c = let l = c .before in let samples = l .before .args .samples .now in let e : l .loop .j ≡ length (l .before .args .samples .now) = omega arith in record {
+  room = l .loop .inv .1 .0;
+  held = subst (λ (j : ℕ). take j (l .loop .values) ≡ take j samples) e (l .loop .inv .1 .1 .0) ∙ take-length samples;
+  of-width = record { count = refl; within = subst (λ (j : ℕ). Seen samples j) e (l .loop .inv .1 .1 .1) };
+}
+
+pub start-values-spec : {M : Type 1} → statement M
+start-values-spec =
+    tie.close
+    (tie.spec
+    Inv-loop
+    μ-loop
+    loop-holds
+    mul-values
+    shared-slice-copy-out-values
+    cast-values
+    mul-t10
+    element-set-from-values
+    add-j
+    loop-less
+    loop-again
+    returns)
