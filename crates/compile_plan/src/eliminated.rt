@@ -3,6 +3,7 @@
 use compile_chains::divisor_operation;
 use compile_lists::operations::Operations;
 use elimination_rows::rows::Rows;
+use elimination_scores::score::taken_in_rows;
 use elimination_scores::signs;
 use elimination_step::RowsState;
 ghost use Prim.Native.Nat.{_≤_};
@@ -19,7 +20,7 @@ pub struct Eliminated {
     pub rows: Rows,
 }
 
-// Steps until the highest score is below 2. The table of signs serves the pick and the step.
+// Steps until the highest score is below 2. The table of signs serves the pick and what is taken.
 pub fn eliminate_rows(rows: Rows, n: u16) -> Eliminated
     requires { ⌜ Ready n (rowsTerms rows) × (n ≤ maxColumns) × (plainCount (rowsTerms rows) ≤ maxOperations) ⌝ }
     ensures { λ r. ⌜ EliminatedOf (elimination smallestFirst n (rowsTerms rows)) r ⌝ }
@@ -42,6 +43,7 @@ pub fn eliminate_rows(rows: Rows, n: u16) -> Eliminated
         }
         operations = operations.push(divisor_operation(divisor));
         replacements += score;
-        state = state.step(&signs, divisor);
+        let taken = taken_in_rows(&signs, left, divisor);
+        state = state.step(divisor, taken);
     }
 }

@@ -7,16 +7,19 @@ use mathlib.Core.List.{List, [], _∷_, _++_, append-assoc}
 use native.Mathlib.Omega.{arith}
 use native.Mathlib.Nat.{add-zero, zero-add}
 use native.Mathlib.Numerals.{add-one}
-use borrow.Author.Tests.{eq-eqb, ne-eqb, le-leb, lt-leb}
+use borrow.Author.Tests.{eq-eqb, ne-eqb, eqb-true, eqb-false, le-leb, lt-leb}
 use lib.Dec.{eqb, leb}
 use lib.ListN.{length, getD, set, replicate, length-append}
-use lib.Seq.{set-at}
+use lib.Seq.{set-at, getD-set-same, getD-set-other}
 use Rattle.limits.specs.Limits.{positions, termSymbols}
 use Rattle.elimination_rules.specs.declared.Divisor.{Divisor}
 use Rattle.elimination_rules.specs.Lookup.{Signs, occursWith, occursAt, overlapsTaken, takenFlags, countTrue, lookupScore, signAt, rowsSigns}
 use Rattle.elimination_rules.specs.Rows.{Row}
 use Rattle.elimination_rules.proofs.LookupFlags.{padded-flag, padded-count, flags-to-limit}
+use Rattle.elimination_rules.proofs.Tests.{by-bool}
+use Rattle.elimination_rows.specs.declared.taken.Taken.{Taken}
 use Rattle.elimination_rows.specs.State.{Ready}
+use Rattle.elimination_rows.specs.Taken.{noTaken, TakenIn}
 use Rattle.elimination_scores.specs.Signs.{tableSigns, rowsSignsFrom, signTable}
 use Rattle.elimination_scores.proofs.SignTable.{look-out, table-signs}
 
@@ -164,3 +167,25 @@ rows-signs table k (r ∷ rs) h =
 -- the table of rows has the signs of each
 pub table-rows : (rows : List Row) → Ready termSymbols rows → rowsSignsFrom (signTable rows) 0 (length rows) ≡ rowsSigns rows
 table-rows rows ready = rows-signs (signTable rows) 0 rows (λ i h. ap (tableSigns (signTable rows)) (zero-add i) ∙ table-signs rows ready i h)
+
+-- ---- what is taken in each row, one row more at a time
+
+module _ (table : List ℕ) (d : Divisor) where
+  -- the flags of the rows before one
+  abbrev pub TakenBefore : ℕ → List Taken → Type 0
+  TakenBefore i taken = (j : ℕ) → j < i → getD taken j noTaken .flags ≡ takenFlags (tableSigns table j) d positions
+
+  pub taken-more : (i : ℕ) (taken : List Taken) (t : Taken) → i < length taken → t .flags ≡ takenFlags (tableSigns table i) d positions
+      → TakenBefore i taken → TakenBefore (i + 1) (set taken i t)
+  taken-more i taken t h e before j l =
+      by-bool (eqb j i)
+      (λ y.
+      let same : j ≡ i = eqb-true j i y in
+      rw (same, getD-set-same taken i t noTaken h) e)
+      (λ n.
+      let other : j ≡ i → ⊥ = eqb-false j i n in
+      ap (λ (u : Taken). u .flags) (getD-set-other taken i j t noTaken other) ∙ before j (omega arith))
+
+pub taken-by-table : (rows : List Row) → Ready termSymbols rows → (table : List ℕ) → table ≡ signTable rows → (d : Divisor) (taken : List Taken)
+    → TakenBefore table d (length rows) taken → TakenIn d rows taken
+taken-by-table rows ready table t d taken before i h = before i h ∙ rw (t, table-signs rows ready i h)

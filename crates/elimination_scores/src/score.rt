@@ -1,20 +1,20 @@
-// Document 01, "Elimination": what is taken of a divisor, co-divisor by co-divisor, and its score. Rests on `limits` and `signs`.
+// Document 01, "Elimination": what is taken of a divisor, co-divisor by co-divisor, and its score. Rests on `limits` and
+// `signs`.
 use crate::signs;
 use crate::signs::SIZE;
+use elimination_rows::rows::Rows;
+use elimination_rows::taken::Taken;
 use elimination_rules::Divisor;
+use limits::MAX_ROWS;
 use limits::POSITIONS;
 ghost use mathlib.Core.Path.{_≡_};
 ghost use mathlib.Core.Bool.{not, _&&_};
 ghost use Prim.Native.Nat.{_+_, _<_, _≤_, max};
-ghost use Rattle.limits.specs.Limits.{maxRows, positions};
+ghost use Rattle.limits.specs.Limits.{maxRows, positions, termSymbols};
 ghost use Rattle.elimination_rules.specs.Lookup.{occursAt, overlapsTaken, takenFlags, countTrue, lookupScore};
-ghost use Rattle.elimination_scores.specs.Signs.{tableSigns, rowsSignsFrom};
-
-// Which co-divisors' occurrences are taken, and how many.
-pub struct Taken {
-    pub flags: [bool; POSITIONS],
-    pub count: usize,
-}
+ghost use Rattle.elimination_rows.specs.State.{rowsTerms, Ready};
+ghost use Rattle.elimination_rows.specs.Taken.{TakenIn};
+ghost use Rattle.elimination_scores.specs.Signs.{tableSigns, rowsSignsFrom, signTable};
 
 // Both terms are there, and their signs differ exactly where the divisor's is minus.
 fn occurs(signs: &[u8; SIZE], row: usize, d: Divisor, c: usize) -> bool
@@ -91,6 +91,25 @@ pub fn taken_in_row(signs: &[u8; SIZE], row: usize, d: Divisor) -> Taken
         c += 1;
     }
     Taken { flags, count }
+}
+
+// What is taken in each of the rows whose table of signs is lent.
+pub fn taken_in_rows(signs: &[u8; SIZE], rows: Rows, d: Divisor) -> [Taken; MAX_ROWS]
+    requires { ⌜ (now signs ≡ signTable (rowsTerms rows)) × Ready termSymbols (rowsTerms rows) ⌝ }
+    ensures { λ r. ⌜ TakenIn d (rowsTerms rows) r ⌝ }
+{
+    let m = rows.m();
+    let none = Taken {
+        flags: [false; POSITIONS],
+        count: 0,
+    };
+    let mut out = [none; MAX_ROWS];
+    let mut i = 0;
+    while i < m {
+        out[i] = taken_in_row(signs, i, d);
+        i += 1;
+    }
+    out
 }
 
 // The score in the first m rows.

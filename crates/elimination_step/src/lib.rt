@@ -1,9 +1,9 @@
-// Document 01, "Elimination": the step of a given divisor, as `elimination_rules` has it. Rests on `elimination_scores`.
+// Document 01, "Elimination": the step of a given divisor, as `elimination_rules` has it. Rests on `elimination_rows`.
 use elimination_rows::row::Row;
 use elimination_rows::rows::Rows;
+use elimination_rows::taken::Taken;
 use elimination_rules::Divisor;
-use elimination_scores::score;
-use elimination_scores::signs::SIZE;
+use limits::MAX_ROWS;
 use limits::POSITIONS;
 use term::Term;
 ghost use mathlib.Core.Path.{_≡_};
@@ -15,7 +15,7 @@ ghost use Rattle.elimination_rules.specs.Rows.{WellFormed};
 ghost use Rattle.elimination_rules.specs.Lookup.{ExponentsBelow, Proper, signAt, takenFlags, partAs, partOfTaken, keptTerms, lookupTerm, lookupTermsFrom};
 ghost use Rattle.elimination_rules.specs.Elimination.{rowAfter, rowsAfter};
 ghost use Rattle.elimination_rows.specs.State.{rowTerms, rowsTerms, Ready};
-ghost use Rattle.elimination_scores.specs.Signs.{signTable};
+ghost use Rattle.elimination_rows.specs.Taken.{TakenIn};
 
 // A term of the symbol, whose exponent is that of a taken co-divisor above the given one.
 fn part_as(symbol: u16, exponent: u8, flags: [bool; POSITIONS], t: Term) -> bool
@@ -88,9 +88,8 @@ fn with_new_terms(row: Row, symbol: u16, d: Divisor, flags: [bool; POSITIONS], r
     out
 }
 
-// A row after the step of a divisor that gets the symbol, where it is known which occurrences are taken. The new symbol is the largest,
-// so the new terms stand last.
-pub fn row_after(symbol: u16, d: Divisor, flags: [bool; POSITIONS], row: Row) -> Row
+// The new symbol is the largest, so the new terms stand last.
+fn row_after(symbol: u16, d: Divisor, flags: [bool; POSITIONS], row: Row) -> Row
     requires { ⌜ (symbol < termSymbols) × Proper d × WellFormed positions symbol (rowTerms row) × (length (rowTerms row) ≤ maxTerms) × (flags ≡ takenFlags (signAt (rowTerms row)) d positions) ⌝ }
     ensures { λ r. ⌜ rowTerms r ≡ rowAfter symbol d (rowTerms row) ⌝ }
 {
@@ -98,9 +97,9 @@ pub fn row_after(symbol: u16, d: Divisor, flags: [bool; POSITIONS], row: Row) ->
     with_new_terms(row, symbol, d, flags, rest)
 }
 
-// All rows after it, by their table of signs. They go into a fresh rows state, one by one.
-fn rows_after(signs: &[u8; SIZE], symbol: u16, d: Divisor, rows: Rows) -> Rows
-    requires { ⌜ (now signs ≡ signTable (rowsTerms rows)) × Ready symbol (rowsTerms rows) × (symbol < termSymbols) × Proper d ⌝ }
+// The rows go into fresh ones, one by one.
+fn rows_after(symbol: u16, d: Divisor, taken: [Taken; MAX_ROWS], rows: Rows) -> Rows
+    requires { ⌜ Ready symbol (rowsTerms rows) × (symbol < termSymbols) × Proper d × TakenIn d (rowsTerms rows) taken ⌝ }
     ensures { λ r. ⌜ rowsTerms r ≡ rowsAfter symbol d (rowsTerms rows) ⌝ }
 {
     let m = rows.m();
@@ -108,8 +107,8 @@ fn rows_after(signs: &[u8; SIZE], symbol: u16, d: Divisor, rows: Rows) -> Rows
     let mut i = 0;
     while i < m {
         let row = rows.row(i);
-        let taken = score::taken_in_row(signs, i, d);
-        let flags = taken.flags;
+        let in_row = taken[i];
+        let flags = in_row.flags;
         let after = row_after(symbol, d, flags, row);
         out = out.with_row(after);
         i += 1;
@@ -124,13 +123,13 @@ pub struct RowsState {
 }
 
 impl RowsState {
-    // The step of a given divisor, by the rows' table of signs.
-    pub fn step(self, signs: &[u8; SIZE], d: Divisor) -> RowsState
-        requires { ⌜ (now signs ≡ signTable (rowsTerms (self .rows))) × Ready (self .symbol) (rowsTerms (self .rows)) × (self .symbol < termSymbols) × Proper d ⌝ }
+    // The step of a given divisor, where it is known what is taken of it in each row.
+    pub fn step(self, d: Divisor, taken: [Taken; MAX_ROWS]) -> RowsState
+        requires { ⌜ Ready (self .symbol) (rowsTerms (self .rows)) × (self .symbol < termSymbols) × Proper d × TakenIn d (rowsTerms (self .rows)) taken ⌝ }
         ensures { λ r. ⌜ (rowsTerms (r .rows) ≡ rowsAfter (self .symbol) d (rowsTerms (self .rows))) × (r .symbol ≡ self .symbol + 1) ⌝ }
     {
         let symbol = self.symbol;
-        let rows = rows_after(signs, symbol, d, self.rows);
+        let rows = rows_after(symbol, d, taken, self.rows);
         RowsState {
             rows,
             symbol: symbol + 1,

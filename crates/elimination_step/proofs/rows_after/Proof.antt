@@ -5,24 +5,22 @@ use mathlib.Core.List.{List, [], _∷_, _++_}
 use native.Mathlib.Omega.{arith}
 use borrow.Author.Needs.{needs}
 use lib.ListN.{length, drop, getD, length-append}
-use Rattle.limits.specs.Limits.{termSymbols}
 use Rattle.term.specs.declared.Term.{Term}
 use Rattle.elimination_rules.specs.Elimination.{rowAfter, rowsAfter}
 use Rattle.elimination_rows.specs.State.{rowTerms, rowsTerms}
-use Rattle.elimination_rows.proofs.Ready.{row-well-formed, row-short, ready-below}
-use Rattle.elimination_scores.proofs.SignTable.{table-signs}
+use Rattle.elimination_rows.proofs.Ready.{row-well-formed, row-short}
 use Rattle.elimination_step.proofs.Stepping.{rows-after-next, rows-after-end}
 use Rattle.elimination_step.proofs.rows_after.Statement.{statement}
 use Rattle.elimination_step.proofs.rows_after.Tie as tie
 
 abbrev Inv-loop : tie.InvT-loop
-Inv-loop signs symbol d rows m out₀ i₀ out i =
+Inv-loop symbol d rows taken m out₀ i₀ out i =
     (i ≤ m)
     × (length (rowsTerms out) ≡ i)
     × (rowsTerms out ++ rowsAfter symbol d (drop i (rowsTerms rows)) ≡ rowsAfter symbol d (rowsTerms rows))
 
 abbrev μ-loop : tie.MeasureT-loop
-μ-loop signs symbol d rows m out₀ i₀ out i = m - i
+μ-loop symbol d rows taken m out₀ i₀ out i = m - i
 
 m-requires : tie.Need-m-requires Inv-loop μ-loop
 m-requires c κs = search needs
@@ -36,8 +34,11 @@ loop-holds c = (omega arith, rw (c .empty .ensures), rw (c .empty .ensures))
 row-requires : tie.Need-row-requires Inv-loop μ-loop
 row-requires c κs = omega arith
 
-taken-in-row-requires : tie.Need-taken-in-row-requires Inv-loop μ-loop
-taken-in-row-requires c κs = let few = c .before .before .before .before .before .pre .1 .few in omega arith
+mul-in-row : tie.Need-mul-in-row Inv-loop μ-loop
+mul-in-row c = let few = c .before .before .before .before .before .pre .0 .few in omega arith
+
+array-copy-out-in-row : tie.Need-array-copy-out-in-row Inv-loop μ-loop
+array-copy-out-in-row c = let few = c .before .before .before .before .before .pre .0 .few in omega arith
 
 row-after-requires : tie.Need-row-after-requires Inv-loop μ-loop
 row-after-requires c κs =
@@ -45,20 +46,12 @@ row-after-requires c κs =
     let s = h .before .before .before in
     let a = s .args in
     let i = h .loop .i in
-    let rows = rowsTerms (a .rows) in
-    let ready = s .pre .1 in
-    let l : i < length rows = omega arith in
-    let signs = table-signs rows (ready-below (a .symbol) termSymbols (omega arith) rows ready) i l in
-    rw (c .before .before .row .ensures) (
-      omega arith,
-      s .pre .3,
-      row-well-formed (a .symbol) rows ready i l,
-      row-short (a .symbol) rows ready i l,
-      c .before .taken-in-row .ensures .0 ∙ rw (s .pre .0, signs),
-    )
+    let terms = rowsTerms (a .rows) in
+    let l : i < length terms = omega arith in
+    rw (c .before .before .row .ensures) (s .pre .1, s .pre .2, row-well-formed (a .symbol) terms (s .pre .0) i l, row-short (a .symbol) terms (s .pre .0) i l, s .pre .3 i l)
 
 with-row-requires : tie.Need-with-row-requires Inv-loop μ-loop
-with-row-requires c κs = let few = c .before .before .before .before .before .before .before .before .pre .1 .few in omega arith
+with-row-requires c κs = let few = c .before .before .before .before .before .before .before .before .pre .0 .few in omega arith
 
 add-i : tie.Need-add-i Inv-loop μ-loop
 add-i c = search needs
@@ -72,15 +65,15 @@ loop-again c =
     let s = h .before .before .before in
     let a = s .args in
     let i = h .loop .i in
-    let rows = rowsTerms (a .rows) in
-    let l : i < length rows = omega arith in
-    let own : rowTerms (c .before .row-after .result) ≡ rowAfter (a .symbol) (a .d) (getD rows i []) =
+    let terms = rowsTerms (a .rows) in
+    let l : i < length terms = omega arith in
+    let own : rowTerms (c .before .row-after .result) ≡ rowAfter (a .symbol) (a .d) (getD terms i []) =
     c .before .row-after .ensures ∙ ap (rowAfter (a .symbol) (a .d)) (c .before .before .before .before .row .ensures) in
-    let out : rowsTerms (c .with-row .result) ≡ rowsTerms (h .loop .out) ++ (rowAfter (a .symbol) (a .d) (getD rows i []) ∷ []) =
+    let out : rowsTerms (c .with-row .result) ≡ rowsTerms (h .loop .out) ++ (rowAfter (a .symbol) (a .d) (getD terms i []) ∷ []) =
     c .with-row .ensures ∙ ap (λ (x : List Term). rowsTerms (h .loop .out) ++ (x ∷ [])) own in (
       omega arith,
-      omega (arith, ap (length {A = List Term}) out, length-append (rowsTerms (h .loop .out)) (rowAfter (a .symbol) (a .d) (getD rows i []) ∷ [])),
-      rw out (sym (rows-after-next (a .symbol) (a .d) rows i (rowsTerms (h .loop .out)) l) ∙ h .loop .inv .2),
+      omega (arith, ap (length {A = List Term}) out, length-append (rowsTerms (h .loop .out)) (rowAfter (a .symbol) (a .d) (getD terms i []) ∷ [])),
+      rw out (sym (rows-after-next (a .symbol) (a .d) terms i (rowsTerms (h .loop .out)) l) ∙ h .loop .inv .2),
     )
 
 returns : tie.Need-returns Inv-loop μ-loop
@@ -100,7 +93,8 @@ rows-after-spec =
     empty-requires
     loop-holds
     row-requires
-    taken-in-row-requires
+    mul-in-row
+    array-copy-out-in-row
     row-after-requires
     with-row-requires
     add-i

@@ -79,23 +79,29 @@ push-requires c κs = let g = c .before in let b = at g .loop .inv in omega (ari
 add-replacements : tie.Need-add-replacements Inv-loop μ-loop
 add-replacements c = let g = c .before .before in omega (arith, less g, at g .loop .inv .replaced)
 
-step-requires : tie.Need-step-requires Inv-loop μ-loop
-step-requires c κs =
+taken-in-rows-requires : tie.Need-taken-in-rows-requires Inv-loop μ-loop
+taken-in-rows-requires c κs =
     let g = c .before .before .before in
     let L = at g in
+    (found g .before .before .sign-table .ensures, within-table (L .loop .inv) (L .before .before .pre .1))
+
+step-requires : tie.Need-step-requires Inv-loop μ-loop
+step-requires c κs =
+    let g = c .before .before .before .before in
+    let L = at g in
     let table = within-table (L .loop .inv) (L .before .before .pre .1) in (
-      found g .before .before .sign-table .ensures,
       L .loop .inv .ready,
       symbol-within g,
       picked-proper (rowsTerms (L .loop .state .rows)) table (best g) (found g .pick .ensures) (two g),
+      c .taken-in-rows .ensures,
     )
 
 loop-less : tie.Need-loop-less Inv-loop μ-loop
-loop-less c = let g = c .before .before .before .before in rw (c .step .ensures .0) (omega (arith, less g, two g))
+loop-less c = let g = c .before .before .before .before .before in rw (c .step .ensures .0) (omega (arith, less g, two g))
 
 loop-again : tie.Need-loop-again Inv-loop μ-loop
 loop-again c =
-    let pushed = c .before .before in
+    let pushed = c .before .before .before in
     let g = pushed .before .before in
     let L = at g in
     let made = pushed .push .ensures ∙ ap (λ (o : Operation). operationsList (L .loop .operations) ++ (o ∷ [])) (pushed .before .divisor-operation .ensures) in
@@ -115,6 +121,7 @@ eliminate-rows-spec =
     divisor-operation-requires
     push-requires
     add-replacements
+    taken-in-rows-requires
     step-requires
     loop-less
     loop-again)
