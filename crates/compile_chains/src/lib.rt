@@ -67,7 +67,7 @@ fn chain_operation(symbol: u16, shift: u8, turned: bool, t: Term) -> Operation
 }
 
 // A row's chain, behind the operations so far; n inputs stand before them.
-pub fn with_chain(operations: Operations, row: Row, n: usize) -> Operations
+fn with_chain(operations: Operations, row: Row, n: usize) -> Operations
     requires { ⌜ n ≤ maxColumns ⌝ }
     requires { ⌜ length (operationsList operations) + pred (length (rowTerms row)) ≤ maxOperations ⌝ }
     ensures { λ r. ⌜ operationsList r ≡ operationsList operations ++ chain (n + length (operationsList operations)) (rowTerms row) ⌝ }
@@ -106,7 +106,7 @@ pub fn with_chains(operations: Operations, rows: Rows, n: usize) -> Operations
 }
 
 // A row's output: zero, its one term, or its chain's last sum; its chain's first operation has the symbol `next`.
-pub fn row_output(row: Row, next: u16) -> Output
+fn row_output(row: Row, next: u16) -> Output
     requires { ⌜ next + length (rowTerms row) ≤ 65535 ⌝ }
     ensures { λ r. ⌜ r ≡ rowOutput next (rowTerms row) ⌝ }
 {
@@ -138,7 +138,7 @@ pub fn row_output(row: Row, next: u16) -> Output
 }
 
 // How many operations a row's chain has: its terms − 1, and 0 without terms.
-pub fn chain_length(row: Row) -> usize
+fn chain_length(row: Row) -> usize
     ensures { λ r. ⌜ r ≡ pred (length (rowTerms row)) ⌝ }
 {
     let count = row.count();

@@ -14,14 +14,14 @@ ghost use Rattle.elimination_rules.specs.Elimination.{smallestFirst, eliminatio
 ghost use Rattle.compile_plan.specs.Planned.{EliminatedOf};
 
 // One operation per divisor, the number of pairs replaced, and the remaining rows.
-pub struct Eliminated {
-    pub operations: Operations,
-    pub replacements: usize,
-    pub rows: Rows,
+pub(crate) struct Eliminated {
+    pub(crate) operations: Operations,
+    pub(crate) replacements: usize,
+    pub(crate) rows: Rows,
 }
 
 // Steps until the highest score is below 2. The table of signs serves the pick and what is taken.
-pub fn eliminate_rows(rows: Rows, n: u16) -> Eliminated
+pub(crate) fn eliminate_rows(rows: Rows, n: u16) -> Eliminated
     requires { ⌜ Ready n (rowsTerms rows) × (n ≤ maxColumns) × (plainCount (rowsTerms rows) ≤ maxOperations) ⌝ }
     ensures { λ r. ⌜ EliminatedOf (elimination smallestFirst n (rowsTerms rows)) r ⌝ }
 {

@@ -1,7 +1,7 @@
 // Document 01, "Elimination" and "Netlist and board machine": the operations and outputs of a matrix record, without widths, and what
 // compile counts. Rests on `elimination_pick`, `elimination_step`, `compile_chains` and `layout_matrix`.
-pub mod rows; // rows.rt: the rows of a matrix record
-pub mod eliminated; // eliminated.rt: elimination to its end
+mod rows; // rows.rt: the rows of a matrix record
+mod eliminated; // eliminated.rt: elimination to its end
 
 use compile_lists::operations::Operations;
 use compile_lists::outputs::Outputs;

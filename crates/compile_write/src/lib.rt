@@ -56,7 +56,7 @@ fn write_operation(
 }
 
 // All operations, behind the head.
-pub fn write_operations(
+fn write_operations(
     buffer: &mut [u8],
     forms: &mut [i64; FORMS_LENGTH],
     operations: Operations,
@@ -76,7 +76,7 @@ pub fn write_operations(
 }
 
 // All outputs, behind so many operations, each with the width of its coefficients in the table.
-pub fn write_outputs(
+fn write_outputs(
     buffer: &mut [u8],
     forms: &[i64; FORMS_LENGTH],
     outputs: Outputs,
@@ -103,7 +103,7 @@ pub fn write_outputs(
 }
 
 // The netlist's depth: the largest of all operations.
-pub fn depth_of(operations: Operations, n: usize) -> u16
+fn depth_of(operations: Operations, n: usize) -> u16
     requires { ⌜ Writable compiledLimits n (operationsList operations) ⌝ }
     ensures { λ r. ⌜ r ≡ depth n (operationsList operations) ⌝ }
 {

@@ -74,7 +74,7 @@ fn co_divisors(d: Divisor) -> usize
 }
 
 // The occurrences in a row are visited by ascending co-divisor.
-pub fn taken_in_row(signs: &[u8; SIZE], row: usize, d: Divisor) -> Taken
+fn taken_in_row(signs: &[u8; SIZE], row: usize, d: Divisor) -> Taken
     requires { ⌜ row < maxRows ⌝ }
     ensures { λ r. ⌜ (r .flags ≡ takenFlags (tableSigns (now (signs .entry)) row) d positions) × (r .count ≡ countTrue (takenFlags (tableSigns (now (signs .entry)) row) d positions)) ⌝ }
 {

@@ -31,7 +31,7 @@ fn blank() -> [u8; SIZE]
 }
 
 // The sign in a row; a symbol or exponent beyond the limits has none.
-pub fn sign_at(signs: &[u8; SIZE], row: usize, symbol: u16, exponent: usize) -> u8
+pub(crate) fn sign_at(signs: &[u8; SIZE], row: usize, symbol: u16, exponent: usize) -> u8
     requires { ⌜ row < maxRows ⌝ }
     ensures { λ r. ⌜ r ≡ tableSigns (now (signs .entry)) row symbol exponent ⌝ }
 {

@@ -50,7 +50,7 @@ pub fn step_numbers(bytes: &[u8], place: usize) -> StepNumbers
 }
 
 // The record's payload as a part of the lent bytes, empty where the step is refused.
-pub fn payload<'a>(bytes: &'a [u8], place: usize) -> &'a [u8]
+fn payload<'a>(bytes: &'a [u8], place: usize) -> &'a [u8]
     ensures { λ r. ⌜ now r ≡ payloadAt (now (bytes .entry)) place ⌝ }
 {
     if step_refusal(bytes, place) != 0 {

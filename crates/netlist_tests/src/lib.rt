@@ -30,7 +30,7 @@ pub fn record_refusal(bytes: &[u8], place: usize, kind: u16, size: usize) -> u8
     0
 }
 
-pub fn head_in_range(h: Head) -> bool
+fn head_in_range(h: Head) -> bool
     ensures { λ r. ⌜ r ≡ headInRange h ⌝ }
 {
     if limits::size_outside(h.m, h.n) {

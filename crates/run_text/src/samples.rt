@@ -1,5 +1,5 @@
 // Document 01, "Reading, checking, running": run, with the samples given as bytes, 2 bytes each, little-endian two's complement, as the
-// matrix record's coefficients are. Rests on limits, layout and checker.
+// matrix record's coefficients are. Rests on `limits`, `layout_matrix` and `netlist_run`.
 use layout_matrix::signed_word;
 use layout_records::little_endian::word_at;
 use limits::MAX_COLUMNS;

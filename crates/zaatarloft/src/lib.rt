@@ -1,4 +1,5 @@
-// Document 01's five calls for hosts in C and Rust, over numbers and slices of numbers alone. Rests on compiler, checker and layout.
+// Document 01's five calls for hosts in C and Rust, over numbers and slices of numbers alone. Rests on `compile`,
+// `netlist_read`, `netlist_check`, `netlist_run` and `layout_step`.
 // Each function returns the refusal's number, 0 where it accepts, and writes the other numbers of the answer through the references.
 // The names say raw: include/zaatarloft.h and rust/src/lib.rs have calls over them that give an answer as one struct.
 ghost use mathlib.Core.Path.{_≡_};
