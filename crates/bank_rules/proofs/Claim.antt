@@ -1,4 +1,4 @@
--- The claim of demand 3 holds, and what joins the laws of compiler and checker: a compiled netlist is a netlist as read takes it, and
+-- The claim of demand 3 holds, and what joins the laws of compile and of read and run: a compiled netlist is a netlist as read takes it, and
 -- the bytes written are its bytes.
 -- Assumes nothing.
 use Prim.Native.Nat.{ℕ, _+_, _≤_, _<_}

@@ -2,7 +2,7 @@
 -- Assumes nothing.
 use mathlib.Core.Path.{_≡_}
 use mathlib.Core.List.{List, [], _∷_}
-use Prim.Native.Nat.{ℕ, _^_}
+use Prim.Native.Nat.{_^_}
 use lib.IntN.{ℤ, pos, negℤ}
 use Rattle.limits.specs.Limits.{positions}
 use Rattle.digits.specs.Digits.{digits, nonzero, summandsFrom}

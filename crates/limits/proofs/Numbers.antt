@@ -1,6 +1,6 @@
 -- The limits that are worked out come to the numbers that document 01 states, and leave the room that the laws of the crates above need.
 -- Assumes nothing.
-use Prim.Native.Nat.{_+_, _*_, _-_, _^_, _≤_}
+use Prim.Native.Nat.{_*_, _-_, _^_, _≤_}
 use mathlib.Core.Path.{_≡_, refl}
 use native.Mathlib.Omega.{arith}
 use Rattle.limits.specs.Limits.{maxRows, maxColumns, maxOperations, maxWidth, maxShift, maxDigits, maxTerms, maxDivisors, termSymbols, columnBits, maxCompiledWidth}

@@ -1,6 +1,5 @@
 -- Document 01, "Marked banks": what list-bank prints, by examples.
 -- Assumes nothing.
-use Prim.Native.Nat.{ℕ}
 use mathlib.Core.Path.{_≡_}
 use mathlib.Core.List.{List, [], _∷_}
 use Rattle.limits.specs.Limits.{maxRows, maxOperations}

@@ -1,5 +1,5 @@
 -- `digits::digit_of` meets its contract. Assumes nothing.
-use mathlib.Core.Path.{_≡_, sym, ap, _∙_}
+use mathlib.Core.Path.{sym, ap, _∙_}
 use Rattle.digits.specs.Digits.{modFour, digitOf, digit}
 use Rattle.digits.proofs.Lowest.{modFour-below}
 use Rattle.digits.proofs.Bits.{masked, digit-otherwise}

@@ -1,5 +1,5 @@
 -- `digits::rest_of` meets its contract. Assumes nothing.
-use mathlib.Core.Path.{_≡_, sym, ap, _∙_}
+use mathlib.Core.Path.{sym, ap, _∙_}
 use native.Mathlib.Omega.{arith}
 use lib.IntN.{ℤ, +ℤ-idr, _+ℤ_}
 use lib.Signed.{shrZ}
