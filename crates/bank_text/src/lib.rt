@@ -1,5 +1,5 @@
-// Document 01, "Marked banks": the text of list-bank for a matrix record. Rests on `limits`,
-// `layout_records`, `compile` and `listing`.
+// Document 01, "Marked banks": the text of list-bank for a matrix record. Rests on `limits`, `layout_records`, `compile` and
+// `listing`.
 use layout_records::places::ENOUGH_BYTES;
 use limits::MAX_OPERATIONS;
 use limits::MAX_ROWS;

@@ -1,5 +1,4 @@
-// Document 01, "Elimination": elimination to its end. Rests on `elimination_pick`,
-// `elimination_step` and `compile_chains`.
+// Document 01, "Elimination": elimination to its end. Rests on `elimination_pick`, `elimination_step` and `compile_chains`.
 use compile_chains::divisor_operation;
 use compile_lists::operations::Operations;
 use elimination_rows::rows::Rows;

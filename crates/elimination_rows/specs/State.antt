@@ -1,4 +1,4 @@
--- The rows state as document 01's rows: the terms of a row, and the rows of a rows state.
+-- The rows by value as document 01's rows: the terms of a row, and the terms of all rows.
 -- Assumes nothing.
 use Prim.Native.Nat.{ℕ, _≤_}
 use mathlib.Core.Bool.{false}

@@ -1,5 +1,5 @@
-// Document 01, "Elimination": the rows state, by value. Rests on `limits` and `row`.
-// The fields are private, so that nothing makes a rows state but its methods.
+// Document 01, "Elimination": the rows, by value. Rests on `limits` and `row`.
+// The fields are private, so that nothing makes such rows but their methods.
 use crate::row::Row;
 use limits::MAX_ROWS;
 ghost use mathlib.Core.Path.{_≡_};

@@ -1,5 +1,4 @@
-// Document 01, "Elimination": what is taken of a divisor, co-divisor by co-divisor, and its score. Rests on `limits` and
-// `signs`.
+// Document 01, "Elimination": what is taken of a divisor, co-divisor by co-divisor, and its score. Rests on `limits` and `signs`.
 use crate::signs;
 use crate::signs::SIZE;
 use elimination_rows::rows::Rows;

@@ -4,8 +4,7 @@ ghost use mathlib.Core.List.{_++_};
 ghost use Prim.Native.Nat.{_+_, _≤_};
 ghost use lib.ListN.{length};
 ghost use Rattle.text.specs.Decimal.{number};
-ghost use Rattle.text.specs.Text.{ascii, placeText, refusedLine};
-ghost use Rattle.text.specs.Text.{longestRefusedLine};
+ghost use Rattle.text.specs.Text.{ascii, placeText, refusedLine, longestRefusedLine};
 ghost use Rattle.text.specs.Wrote.{Wrote};
 
 // A number in decimal: its digits are worked out from the last to the first, then copied.

@@ -9,8 +9,7 @@ use Rattle.netlist_rules.specs.declared.ReadAnswer.{ReadAnswer}
 use Rattle.netlist_rules.specs.Read.{headRefusal, readNetlist}
 use Rattle.netlist_read.specs.Tables.{NetlistHeld}
 use Rattle.netlist_tests.proofs.RecordLaws.{head-due, totals-due}
-use Rattle.netlist_read.proofs.NetlistLaws.{stop-answer}
-use Rattle.netlist_read.proofs.NetlistLaws.{head-declines, answer-refused, answer-accepted, answer-fields, place-is}
+use Rattle.netlist_read.proofs.NetlistLaws.{stop-answer, head-declines, answer-refused, answer-accepted, answer-fields, place-is}
 use borrow.Author.Needs.{needs}
 use Rattle.netlist_read.proofs.netlist.Statement.{statement}
 use Rattle.netlist_read.proofs.netlist.Tie as tie

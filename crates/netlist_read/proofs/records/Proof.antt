@@ -12,9 +12,8 @@ use Rattle.netlist_rules.specs.Read.{refused, accepted, headRefusal, readOperat
 use Rattle.netlist_rules.specs.Exact.{readLimits}
 use Rattle.netlist_read.specs.Tables.{FormsHeld, OperationsRead, OutputsRead, refusalOf}
 use Rattle.netlist_tests.proofs.RecordLaws.{head-due}
-use Rattle.netlist_read.proofs.NetlistLaws.{stop-answer}
+use Rattle.netlist_read.proofs.NetlistLaws.{stop-answer, declined, operations-decline, outputs-decline, totals-decline, leftover, all-accepted, place-is}
 use Rattle.netlist_read.proofs.HeldLaws.{forms-started, depths-started}
-use Rattle.netlist_read.proofs.NetlistLaws.{declined, operations-decline, outputs-decline, totals-decline, leftover, all-accepted, place-is}
 use borrow.Author.Needs.{needs}
 use Rattle.netlist_read.proofs.records.Statement.{statement}
 use Rattle.netlist_read.proofs.records.Tie as tie
