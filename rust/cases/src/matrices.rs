@@ -9,6 +9,12 @@ pub struct Matrix {
 }
 
 impl Matrix {
+    pub fn of_rows(rows: &[&[i16]]) -> Self {
+        Matrix {
+            rows: rows.iter().map(|row| row.to_vec()).collect(),
+        }
+    }
+
     pub fn m(&self) -> usize {
         self.rows.len()
     }
@@ -38,7 +44,8 @@ impl Matrix {
     }
 }
 
-fn filled(m: usize, n: usize, mut coefficient: impl FnMut() -> i16) -> Matrix {
+/// A matrix whose coefficients are drawn row by row.
+pub fn filled(m: usize, n: usize, mut coefficient: impl FnMut() -> i16) -> Matrix {
     let rows = (0..m).map(|_| (0..n).map(|_| coefficient()).collect());
     Matrix {
         rows: rows.collect(),

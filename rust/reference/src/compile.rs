@@ -7,7 +7,7 @@ use crate::refusal::{require, Refusal};
 use crate::width::Entries;
 
 /// What an accepted compile returns.
-#[derive(Clone, Copy, Debug, PartialEq, Eq)]
+#[derive(Clone, Copy, Debug, Default, PartialEq, Eq)]
 pub struct Compiled {
     /// Bytes written.
     pub written: usize,

@@ -23,5 +23,5 @@ pub use check::check;
 pub use compile::{compile, Compiled};
 pub use read::{read, Netlist};
 pub use record::{step, Record};
-pub use refusal::Refusal;
+pub use refusal::{returned, Refusal};
 pub use run::run;

@@ -7,7 +7,7 @@ use crate::refusal::{require, Refusal};
 use crate::width::{Entries, Form, MOST_WIDTH};
 
 /// What an accepted read returns.
-#[derive(Clone, Copy, Debug, PartialEq, Eq)]
+#[derive(Clone, Copy, Debug, Default, PartialEq, Eq)]
 pub struct Netlist {
     pub m: u8,
     pub n: u8,

@@ -4,9 +4,7 @@ use cases::Matrix;
 use reference::{check, compile, read, run, step, Compiled, Netlist, Refusal};
 
 fn compiled(rows: &[&[i16]]) -> (Compiled, Vec<u8>) {
-    let matrix = Matrix {
-        rows: rows.iter().map(|row| row.to_vec()).collect(),
-    };
+    let matrix = Matrix::of_rows(rows);
     let mut buffer = vec![0xA5; 6136];
     let compiled = compile(&matrix.record(), &mut buffer).unwrap();
     buffer.truncate(compiled.written);

@@ -2,17 +2,10 @@
 //! where it is a refusal.
 
 use cases::{any_matrix, any_netlist, damage, damage_matrix, each, Met};
+use reference::returned;
 use zaatarloft::raw::{
     zaatarloft_raw_compile, zaatarloft_raw_read, zaatarloft_raw_run, zaatarloft_raw_step,
 };
-
-/// Number and place of an answer.
-fn outcome<T>(answer: &Result<T, reference::Refusal>) -> (u8, usize) {
-    match answer {
-        Ok(_) => (0, 0),
-        Err(refusal) => (refusal.number, refusal.place),
-    }
-}
 
 #[test]
 fn numbers_of_compile() {
@@ -43,7 +36,7 @@ fn numbers_of_compile() {
         };
         met.count(number);
         let expected = reference::compile(&record, &mut vec![0; room]);
-        assert_eq!((number, place), outcome(&expected));
+        assert_eq!((number, place), returned(&expected));
         let expected = expected.map_or((0, [0; 5]), |c| {
             let counts = [c.operations, c.plain, c.divisors, c.replacements, c.depth];
             (c.written, counts)
@@ -76,7 +69,7 @@ fn numbers_of_read_and_step() {
         };
         met.count(number);
         let expected = reference::read(&netlist);
-        assert_eq!((number, place), outcome(&expected));
+        assert_eq!((number, place), returned(&expected));
         let expected = expected.map_or((0, 0, 0, 0), |r| (r.m, r.n, r.operations, r.depth));
         assert_eq!((m, n, operations, depth), expected);
 
@@ -89,7 +82,7 @@ fn numbers_of_read_and_step() {
         };
         stepped.count(number);
         let expected = reference::step(&netlist, at);
-        assert_eq!((number, place), outcome(&expected));
+        assert_eq!((number, place), returned(&expected));
         assert_eq!((kind, next), expected.map_or((0, 0), |r| (r.kind, r.next)));
     });
     met.assert_exactly("read", &[0, 7, 8, 9, 10, 11, 12], 100);
@@ -129,7 +122,7 @@ fn numbers_of_run() {
         met.count(number);
         let mut values = old;
         let expected = reference::run(&netlist, &samples, &mut values);
-        assert_eq!((number, place), outcome(&expected));
+        assert_eq!((number, place), returned(&expected));
         assert_eq!(outputs, values);
     });
     met.assert_exactly("run", &[0, 7, 8, 9, 10, 11, 12, 15, 16], 100);

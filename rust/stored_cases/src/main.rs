@@ -1,0 +1,104 @@
+//! Writes what each program reads in the gate, and what it must print, into crates/NAME/stdin and crates/NAME/stdout:
+//!
+//!     cd rust && cargo run --release --offline -p stored_cases ../crates
+//!
+//! The choice of cases is deterministic. Expected outputs are those of `reference` and never of the programs under test, whose
+//! sources say how their input is laid out. `cargo test` compares the stored files with what this writes.
+
+mod case;
+mod check;
+mod compile;
+mod matrices;
+mod mersenne_twister;
+mod netlists;
+mod run;
+
+use std::path::{Path, PathBuf};
+use std::{env, fs};
+
+use case::Case;
+use matrices::{netlist, three_minus_three};
+
+/// The programs by name.
+fn programs() -> [(&'static str, Case); 4] {
+    [
+        ("test_calls", test_calls()),
+        ("run_bank", run_bank()),
+        ("compile_bank", compile_bank()),
+        ("check_bank", check_bank()),
+    ]
+}
+
+fn test_calls() -> Case {
+    let mut all = Case::default();
+    for cases in [compile::cases(), check::cases(), run::cases()] {
+        for case in cases {
+            all.stdin.extend(case.stdin);
+            all.stdout.extend(case.stdout);
+        }
+    }
+    all
+}
+
+fn compile_bank() -> Case {
+    let record = include_bytes!("../../../examples/smoothing-and-slope.matrix");
+    Case {
+        stdin: record.to_vec(),
+        stdout: netlist(record),
+    }
+}
+
+fn check_bank() -> Case {
+    let record = three_minus_three().record();
+    let netlist = netlist(&record);
+    assert_eq!(reference::check(&record, &netlist), Ok(()));
+    let length = (record.len() as u32).to_le_bytes();
+    Case {
+        stdin: [&length[..], &record, &netlist].concat(),
+        stdout: b"accepted\n".to_vec(),
+    }
+}
+
+fn run_bank() -> Case {
+    let netlist = netlist(&three_minus_three().record());
+    let samples: [i16; 2] = [32_767, -32_768];
+    let mut outputs = [0];
+    assert_eq!(reference::run(&netlist, &samples, &mut outputs), Ok(()));
+    let length = (netlist.len() as u16).to_le_bytes();
+    let samples = samples.map(i16::to_le_bytes).concat();
+    Case {
+        stdin: [&length[..], &netlist, &samples].concat(),
+        stdout: format!("{}\n", outputs[0]).into_bytes(),
+    }
+}
+
+/// The stored files under the folder of the crates, and what they hold.
+fn files(crates: &Path) -> Vec<(PathBuf, Vec<u8>)> {
+    let mut all = Vec::new();
+    for (name, case) in programs() {
+        all.push((crates.join(name).join("stdin"), case.stdin));
+        all.push((crates.join(name).join("stdout"), case.stdout));
+    }
+    all
+}
+
+fn main() {
+    let crates = env::args().nth(1).expect("the folder of the crates");
+    for (path, bytes) in files(Path::new(&crates)) {
+        fs::write(&path, bytes).unwrap_or_else(|error| panic!("{}: {error}", path.display()));
+    }
+}
+
+#[cfg(test)]
+mod tests {
+    use super::*;
+
+    #[test]
+    fn stored_files_are_those_made() {
+        let crates = Path::new(env!("CARGO_MANIFEST_DIR")).join("../../crates");
+        let mut files = files(&crates);
+        files.retain(|(path, bytes)| fs::read(path).ok().as_ref() != Some(bytes));
+        let others: Vec<PathBuf> = files.into_iter().map(|(path, _)| path).collect();
+        assert!(others.is_empty(), "missing or different: {others:?}");
+    }
+}

@@ -1,0 +1,100 @@
+//! Matrices, matrix records that are refused, and the netlists that compile makes.
+
+use cases::{filled, Matrix};
+
+use crate::mersenne_twister::MersenneTwister;
+
+const EXTREMES: [i16; 7] = [i16::MIN, i16::MAX, 21_845, -21_846, 0, 1, -1];
+
+/// Coefficients of matrices that have one.
+const ALONE: [i16; 14] = [
+    0,
+    1,
+    -1,
+    2,
+    16_384,
+    i16::MIN,
+    i16::MAX,
+    21_845,
+    -21_846,
+    21,
+    85,
+    1_365,
+    6,
+    23,
+];
+
+/// The bytes that suffice for every netlist.
+pub const ROOM: usize = 6136;
+
+/// Document 01's example.
+pub fn three_minus_three() -> Matrix {
+    Matrix::of_rows(&[&[3, -3]])
+}
+
+/// Three rows: a sum, nothing, and an input negated.
+pub fn five_zero_minus_one() -> Matrix {
+    Matrix::of_rows(&[&[5], &[0], &[-1]])
+}
+
+/// Matrices of all sizes: zeros, single terms, extremes, marked banks, spread random coefficients.
+pub fn matrices() -> Vec<Matrix> {
+    let mut random = MersenneTwister::new(&[20_261_115]);
+    let mut all: Vec<Matrix> = ALONE.iter().map(|&c| filled(1, 1, || c)).collect();
+    all.extend([
+        three_minus_three(),
+        Matrix::of_rows(&[
+            &[1, 1, 1, 1],
+            &[2, 1, -1, -2],
+            &[1, -1, -1, 1],
+            &[1, -2, 2, -1],
+        ]),
+        filled(8, 8, || 0),
+        filled(1, 8, || i16::MIN),
+        filled(8, 8, || 21_845),
+        filled(8, 8, || random.choose(&EXTREMES)),
+        Matrix::of_rows(&[&[0, 0, 0], &[5, 0, 5], &[0, -20, 0]]),
+    ]);
+    for size in 2..=8 {
+        all.push(filled(9 - size, size, || 1 << random.between(0, 14)));
+    }
+    for m in 1..=8 {
+        for n in [m, 9 - m, random.between(1, 8) as usize] {
+            let end = 1 << (random.choose(&[4, 8, 12, 16]) - 1);
+            all.push(filled(m, n, || random.between(-end, end - 1) as i16));
+        }
+    }
+    for _ in 0..6 {
+        all.push(filled(8, 8, || random.between(-32_768, 32_767) as i16));
+    }
+    all
+}
+
+/// Matrix records that are refused, with 1 to 5.
+pub fn refused_records() -> Vec<Vec<u8>> {
+    let right = three_minus_three().record();
+    let with = |place: usize, bytes: [u8; 2]| {
+        let mut changed = right.clone();
+        changed[place..place + 2].copy_from_slice(&bytes);
+        changed
+    };
+    let mut all: Vec<Vec<u8>> = (0..6).map(|length| right[..length].to_vec()).collect(); // 1
+    all.push([&right[..], &[0]].concat()); // 2
+    all.push(right[..right.len() - 1].to_vec()); // 2
+    all.push(with(2, [2, 0])); // 3
+    all.push(with(2, [1, 1])); // 3
+    for size in [[0, 2], [1, 0], [9, 1], [1, 255]] {
+        all.push(with(4, size)); // 4
+    }
+    all.push(with(4, [2, 2])); // 5
+    all.push(with(4, [1, 1])); // 5
+    all
+}
+
+/// The netlist of a matrix record.
+pub fn netlist(record: &[u8]) -> Vec<u8> {
+    let mut buffer = vec![0; ROOM];
+    let compiled = reference::compile(record, &mut buffer).expect("a right record");
+    buffer.truncate(compiled.written);
+    buffer
+}
