@@ -14,14 +14,24 @@ pub fn each(first: u64, count: u64, mut test: impl FnMut(&mut Random)) {
     }
 }
 
-/// The seeds that SEED chooses.
+/// The seeds that SEED chooses, where it is set.
 fn chosen() -> Option<Range<u64>> {
-    let words = std::env::var("SEED").ok()?;
-    let number = |word: &str| word.parse::<u64>().expect("SEED is a number or a range");
-    Some(match words.split_once("..") {
-        Some((first, end)) => number(first)..number(end),
-        None => number(&words)..number(&words) + 1,
-    })
+    let text = std::env::var_os("SEED")?;
+    let seeds = text.to_str().and_then(seeds);
+    assert!(seeds.is_some(), "SEED={text:?} chooses no seed");
+    seeds
+}
+
+/// The seeds that a text chooses; none where it is no number, no range, or an empty range.
+fn seeds(text: &str) -> Option<Range<u64>> {
+    let (first, end) = match text.split_once("..") {
+        Some((first, end)) => (first.parse().ok()?, end.parse().ok()?),
+        None => {
+            let only: u64 = text.parse().ok()?;
+            (only, only.checked_add(1)?)
+        }
+    };
+    (first < end).then_some(first..end)
 }
 
 /// Names the seed where its case fails.
@@ -44,9 +54,10 @@ impl Met {
         self.0[usize::from(number)] += 1;
     }
 
-    /// Each of `numbers` was met at least so often, and no other was met.
+    /// Each of `numbers` was met at least so often, and no other was met; where SEED chooses the cases, something was met.
     pub fn assert_exactly(&self, call: &str, numbers: &[u8], least: u64) {
         println!("{call}: {:?}", self.0);
+        assert_ne!(self.0, [0; 17], "{call}: no case was met");
         if chosen().is_some() {
             return;
         }
@@ -57,5 +68,26 @@ impl Met {
                 assert_eq!(count, 0, "{call}: {number} was met");
             }
         }
+    }
+}
+
+#[cfg(test)]
+mod tests {
+    use super::*;
+
+    #[test]
+    fn one_seed_or_a_range() {
+        assert_eq!(seeds("5"), Some(5..6));
+        assert_eq!(seeds("5..7"), Some(5..7));
+    }
+
+    #[test]
+    fn no_seed() {
+        for text in [
+            "5..5", "7..5", "", "..", "5..", "..5", "5..=7", "five", "-1",
+        ] {
+            assert_eq!(seeds(text), None, "{text}");
+        }
+        assert_eq!(seeds(&u64::MAX.to_string()), None);
     }
 }

@@ -77,20 +77,28 @@ fn right_netlists() {
     both.assert_run(&[0, 10, 15, 16], 100);
 }
 
+/// A matrix that has a plain netlist, and that netlist.
+fn matrix_and_plain_netlist(random: &mut Random) -> (Matrix, Vec<u8>) {
+    loop {
+        let matrix = any_matrix(random, 8, 8);
+        if let Some(plain) = plain_netlist(random, &matrix) {
+            return (matrix, plain);
+        }
+    }
+}
+
 /// Netlists that compute the matrix from binary digits: check accepts what compile would not write.
 #[test]
 fn plain_netlists() {
     let mut both = Both::default();
     each(3_000_000, 10_000, |random| {
-        let matrix = any_matrix(random, 8, 8);
-        if let Some(plain) = plain_netlist(random, &matrix) {
-            assert!(both.check(&matrix.record(), &plain));
-            let samples: Vec<i16> = matrix.rows[0].iter().map(|_| random.sample()).collect();
-            let outputs = both.run(&plain, &samples, &vec![1; matrix.m()]);
-            assert_eq!(outputs, Some(matrix.times(&samples)));
-        }
+        let (matrix, plain) = matrix_and_plain_netlist(random);
+        assert!(both.check(&matrix.record(), &plain));
+        let samples: Vec<i16> = matrix.rows[0].iter().map(|_| random.sample()).collect();
+        let outputs = both.run(&plain, &samples, &vec![1; matrix.m()]);
+        assert_eq!(outputs, Some(matrix.times(&samples)));
     });
-    both.assert_check(&[0], 9_000);
+    both.assert_check(&[0], 10_000);
 }
 
 /// Around 504 operations, the most that a head may say.
