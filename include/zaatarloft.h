@@ -26,21 +26,20 @@ extern "C" {
 
 /* ---- Why a record was declined */
 
-/* Document 01's words for a refusal's number, and beside them its place; NULL for another number. In 9, a zero output as above
- * has symbol 0, shift 0 and width 1. */
+/* When a call returns a refusal's number, in words, and beside them its place; NULL for another number. */
 static inline const char *zaatarloft_refusal_words(uint8_t refusal)
 {
     switch (refusal) {
     case 1: /* place 0 */
         return "fewer than 6 matrix bytes";
     case 2: /* place 0 */
-        return "length field differs from the number of bytes lent";
+        return "the matrix's length field differs from the number of bytes lent";
     case 3: /* place 0 */
-        return "kind is not 1";
+        return "the matrix's kind is not 1";
     case 4: /* place 0 */
-        return "m or n outside 1 to 8";
+        return "the matrix's m or n outside 1 to 8";
     case 5: /* place 0 */
-        return "length is not 6 + 2 times m times n";
+        return "the matrix's length is not 6 + 2 times m times n";
     case 6: /* place 0 */
         return "output buffer shorter than the netlist";
     case 7: /* record's start */
@@ -49,7 +48,8 @@ static inline const char *zaatarloft_refusal_words(uint8_t refusal)
         return "kind or length not the expected one";
     case 9: /* record's start */
         return "a field other than a recorded width or a total out of range, an operand not earlier than its operation, "
-               "an output symbol not below n + operations, or a zero output not as above, its width included";
+               "an output symbol not below n + operations, or a zero output whose symbol is not 0, shift not 0 or "
+               "width not 1";
     case 10: /* record's start */
         return "recorded width is not the width, or the width exceeds 40";
     case 11: /* record's start */

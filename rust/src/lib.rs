@@ -28,11 +28,11 @@ pub struct Refusal {
     pub place: usize,
 }
 
-/// What is returned and when, a line each, as document 01 has them: `number, place | words`.
+/// What calls return and when, a line each: `number, place | words`.
 const REFUSALS: &str = include_str!("../../include/refusals.txt");
 
 impl Refusal {
-    /// Document 01's words for the number.
+    /// When a call returns the number, in words.
     pub fn words(&self) -> &'static str {
         let words = REFUSALS.lines().find_map(|line| {
             let (returned, words) = line.split_once(" | ")?;
