@@ -1,7 +1,6 @@
-//! Measures both sides and writes docs/BENCHMARKS.md and docs/benchmarks.svg: bench FOLDER-OF-THE-REPOSITORY.
+//! Measures both sides and writes docs/BENCHMARKS.md: bench FOLDER-OF-THE-REPOSITORY.
 
 mod machine;
-mod plot;
 mod programs;
 mod tables;
 mod text;
@@ -11,16 +10,12 @@ use std::path::{Path, PathBuf};
 use std::{env, fs};
 
 use bench::{Call, CALLS, SIDES};
-use plot::{page, Panel};
 use programs::Figures;
 use times::{Banks, Times};
 
 /// Between these lines docs/BENCHMARKS.md is written anew.
 const BEGIN: &str = "<!-- measured: begin -->";
 const END: &str = "<!-- measured: end -->";
-
-const TITLE: &str = "Time per call of the verified library and of the independent implementation: medians over random banks, \
-                     both axes logarithmic";
 
 /// Sizes and coefficient sizes that are measured: growing banks, then growing coefficients. The last is the largest.
 const MEASURED: [(usize, u32); 11] = [
@@ -94,53 +89,7 @@ fn main() {
     tables::memory(&mut text, &memory);
     tables::absolute(&mut text, &calls, &instructions, &machine);
     replace_measured(&root.join("docs/BENCHMARKS.md"), &text);
-    let plot = page(TITLE, &panels(&sizes, &bits));
-    fs::write(root.join("docs/benchmarks.svg"), plot).expect("docs/benchmarks.svg is written");
     println!("{text}");
-}
-
-fn panels(sizes: &[&Growth], bits: &[&Growth]) -> Vec<Panel> {
-    let area = |g: &Growth| (g.size * g.size) as f64;
-    let width = |g: &Growth| f64::from(g.bits);
-    let areas = vec![1.0, 4.0, 9.0, 16.0, 25.0, 36.0, 64.0];
-    vec![
-        Panel {
-            title: "compile, 16-bit coefficients",
-            below: "m · n (m = n)",
-            marks: areas.clone(),
-            verified: sizes
-                .iter()
-                .map(|g| (area(g), g.compile.verified))
-                .collect(),
-            independent: sizes
-                .iter()
-                .map(|g| (area(g), g.compile.independent))
-                .collect(),
-        },
-        Panel {
-            title: "compile, 8 by 8",
-            below: "bits of a coefficient",
-            marks: vec![4.0, 8.0, 12.0, 16.0],
-            verified: bits
-                .iter()
-                .map(|g| (width(g), g.compile.verified))
-                .collect(),
-            independent: bits
-                .iter()
-                .map(|g| (width(g), g.compile.independent))
-                .collect(),
-        },
-        Panel {
-            title: "read, 16-bit coefficients",
-            below: "m · n (m = n)",
-            marks: areas,
-            verified: sizes.iter().map(|g| (area(g), g.read.verified)).collect(),
-            independent: sizes
-                .iter()
-                .map(|g| (area(g), g.read.independent))
-                .collect(),
-        },
-    ]
 }
 
 fn replace_measured(path: &Path, measured: &str) {
