@@ -9,7 +9,7 @@ use lib.ListN.{take, drop}
 use borrow.Author.Tests.{lt-ltb, le-ltb, eq-eqb, ne-eqb, ltb-false}
 use Rattle.layout_rules.proofs.Refusal.{passed}
 use Rattle.layout_rules.specs.Bytes.{word}
-use Rattle.layout_rules.specs.Step.{remaining, stepRefusal, stepNumbers, payloadAt}
+use Rattle.layout_rules.specs.Step.{remaining, stepRefusal, stepNumbers, payloadAt, payloadStart}
 
 -- a whole record stands at a place
 pub record AcceptedStep (b : List ℕ) (place : ℕ) : Type 0 where
@@ -63,3 +63,11 @@ module _ (b : List ℕ) (place : ℕ) where
   pub payload-accepted : stepRefusal b place ≡ 0 → take (word b place - 4) (drop (place + 4) b) ≡ payloadAt b place
   unfolding payloadAt
   payload-accepted e = simp (eq-eqb (stepRefusal b place) 0 e)
+
+  pub start-refused : (stepRefusal b place ≡ 0 → ⊥) → (start : ℕ × ℕ) → start ≡ payloadStart b place start
+  unfolding payloadStart
+  start-refused n start = simp (ne-eqb (stepRefusal b place) 0 n)
+
+  pub start-accepted : stepRefusal b place ≡ 0 → (start : ℕ × ℕ) → (start .0, place + 4 + start .1) ≡ payloadStart b place start
+  unfolding payloadStart
+  start-accepted e start = simp (eq-eqb (stepRefusal b place) 0 e)

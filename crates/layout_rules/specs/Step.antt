@@ -32,6 +32,11 @@ stepNumbers bytes place =
 unfoldable pub payloadAt : List ℕ → ℕ → List ℕ
 payloadAt bytes place = cond (eqb (stepRefusal bytes place) 0) (take (word bytes place - 4) (drop (place + 4) bytes)) []
 
+-- where the part starts, as a block of memory and an offset in it, given where the bytes do: 4 bytes behind the record's start; document 01
+-- leaves open where the empty part of a refusal starts, here where the bytes do
+unfoldable pub payloadStart : List ℕ → ℕ → ℕ × ℕ → ℕ × ℕ
+payloadStart bytes place start = cond (eqb (stepRefusal bytes place) 0) (start .0, place + 4 + start .1) start
+
 -- the numbers that a step hands back beside the part
 abbrev pub numbersOf : StepAnswer → StepNumbers
 numbersOf s = record { refusal = s .refusal; place = s .place; kind = s .kind; next = s .next }

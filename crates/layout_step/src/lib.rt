@@ -3,7 +3,8 @@ use layout_records::little_endian::word_at;
 use layout_rules::StepAnswer;
 use layout_rules::StepNumbers;
 ghost use mathlib.Core.Path.{_≡_};
-ghost use Rattle.layout_rules.specs.Step.{stepRefusal, stepNumbers, payloadAt, numbersOf};
+ghost use denote.Ref.{ptr};
+ghost use Rattle.layout_rules.specs.Step.{stepRefusal, stepNumbers, payloadAt, payloadStart, numbersOf};
 
 // 7: under 4 bytes remain, or the length exceeds what remains; 8: the length is below 4; 0: neither.
 fn step_refusal(bytes: &[u8], place: usize) -> u8
@@ -51,7 +52,7 @@ pub fn step_numbers(bytes: &[u8], place: usize) -> StepNumbers
 
 // The record's payload as a part of the lent bytes, empty where the step is refused.
 fn payload<'a>(bytes: &'a [u8], place: usize) -> &'a [u8]
-    ensures { λ r. ⌜ now r ≡ payloadAt (now (bytes .entry)) place ⌝ }
+    ensures { λ r. ⌜ (now r ≡ payloadAt (now (bytes .entry)) place) × (ptr r ≡ payloadStart (now (bytes .entry)) place (ptr (bytes .entry))) ⌝ }
 {
     if step_refusal(bytes, place) != 0 {
         return &bytes[0..0];
@@ -64,7 +65,7 @@ fn payload<'a>(bytes: &'a [u8], place: usize) -> &'a [u8]
 
 // The step over the record at a place, for any bytes and any place.
 pub fn step<'a>(bytes: &'a [u8], place: usize) -> StepAnswer<'a>
-    ensures { λ r. ⌜ (numbersOf r ≡ stepNumbers (now (bytes .entry)) place) × (now (r .payload) ≡ payloadAt (now (bytes .entry)) place) ⌝ }
+    ensures { λ r. ⌜ (numbersOf r ≡ stepNumbers (now (bytes .entry)) place) × (now (r .payload) ≡ payloadAt (now (bytes .entry)) place) × (ptr (r .payload) ≡ payloadStart (now (bytes .entry)) place (ptr (bytes .entry))) ⌝ }
 {
     let numbers = step_numbers(bytes, place);
     let part = payload(bytes, place);

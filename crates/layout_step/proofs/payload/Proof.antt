@@ -1,8 +1,8 @@
 -- `layout_step::payload` meets its contract. Assumes nothing.
-use Prim.Native.Nat.{_+_, _-_}
-use mathlib.Core.Path.{_≡_, sym, _∙_}
+use Prim.Native.Nat.{ℕ, _+_, _-_}
+use mathlib.Core.Path.{_≡_, sym, ap, _∙_}
 use native.Mathlib.Omega.{arith}
-use Rattle.layout_rules.proofs.Accepted.{AcceptedStep, accepted-step, payload-refused, payload-accepted}
+use Rattle.layout_rules.proofs.Accepted.{AcceptedStep, accepted-step, payload-refused, payload-accepted, start-refused, start-accepted}
 use Rattle.layout_rules.specs.Bytes.{word}
 use Rattle.layout_rules.specs.Step.{stepRefusal}
 use borrow.Author.Needs.{needs}
@@ -28,7 +28,11 @@ part-result-end : tie.Need-part-result-end
 part-result-end c = search needs
 
 returns : tie.Need-returns
-returns c = payload-refused _ _ (λ e. c .before .if1 .taken (c .before .before .step-refusal .ensures ∙ e))
+returns c =
+    let s = c .before .before .before .before .args in
+    let refused : stepRefusal (s .bytes .now) (s .place) ≡ 0 → ⊥ = λ e. c .before .if1 .taken (c .before .before .step-refusal .ensures ∙ e) in
+    let start : 0 + s .bytes .ptr .1 ≡ s .bytes .ptr .1 = omega arith in
+    (payload-refused _ _ refused, ap (λ (o : ℕ). (s .bytes .ptr .0, o)) start ∙ start-refused _ _ refused (s .bytes .ptr))
 
 word-at-requires : tie.Need-word-at-requires
 word-at-requires c κs = omega (arith, accepted c)
@@ -56,7 +60,7 @@ returns-2 c =
     let s = c .before .before .before .before .before .args in
     let b = s .bytes .now in
     let n : s .place + word b (s .place) - (s .place + 4) ≡ word b (s .place) - 4 = omega arith in
-    rw (c .before .word-at .ensures, n) (payload-accepted _ _ (not-refused (c .before .before)))
+    (rw (c .before .word-at .ensures, n) (payload-accepted _ _ (not-refused (c .before .before))), start-accepted _ _ (not-refused (c .before .before)) _)
 
 pub payload-spec : {M : Type 1} → statement M
 payload-spec =

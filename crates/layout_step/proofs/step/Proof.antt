@@ -25,7 +25,7 @@ use denote.RattleType.{owns}
 use denote.Laws.{Is, shows}
 use denote.Plain.{uint-vals, uint-tells, uint-makes}
 use denote.Builtin.{u8, u16, usize}
-use denote.Ref.{RefT, NamedLft, now}
+use denote.Ref.{RefT, NamedLft, ptr, now}
 use denote.Signature.{plain, namedLft}
 use denote.Slice.{sliceTy, sliceVal, ShrSlice, slice-vals, shr-slice-tells, shr-slice-lawful, shr-slice-copy}
 use denote.Steps.{only, peeks, heard, nothing, owned}
@@ -39,7 +39,7 @@ use denote.Triple.Table.{entered, cited}
 use denote.Triple.Walked.{says, Stays, stay-none, stay-none-slice, walkOf, goes-none, goes-none-slice, Walks, ends-at, walked, walk-meets}
 use denote.Exit.{yes}
 use denote.Triple.Clauses.{ensured, lasts}
-use Rattle.layout_rules.specs.Step.{stepNumbers, payloadAt}
+use Rattle.layout_rules.specs.Step.{stepNumbers, payloadAt, payloadStart}
 use Rattle.layout_rules.specs.declared.StepAnswer.{StepAnswer}
 use Rattle.layout_rules.specs.declared.StepNumbers.{StepNumbers}
 use Rattle.layout_rules.proofs.StepAnswer as T
@@ -122,15 +122,19 @@ module _ {M : Type 1} (𝓤 : URA M) (H : Heap 𝓤) (A : Atoms 𝓤) (W : Given
   numbers-said : (r : StepNumbers) → ent 𝓤 (ensured 𝓤 H A numbers.ended (numbers.clauses 𝓤 H A mem run) (κ, tt) (s, (n, tt)) tt r) (fact 𝓤 (r ≡ stepNumbers (now s) n))
   numbers-said r = exE 𝓤 _ (λ ws. snd∗ 𝓤 (sem 𝓤 H A (lasts numbers.ended (κ, tt) (s, (n, tt)) ws)) (fact 𝓤 (r ≡ stepNumbers (now s) n)))
 
-  payload-said : (p : RefT (List ℕ)) → ent 𝓤 (ensured 𝓤 H A payload.ended (payload.clauses 𝓤 H A mem run) (κ, tt) (s, (n, tt)) tt p) (fact 𝓤 (now p ≡ payloadAt (now s) n))
-  payload-said p = exE 𝓤 _ (λ ws. snd∗ 𝓤 (sem 𝓤 H A (lasts payload.ended (κ, tt) (s, (n, tt)) ws)) (fact 𝓤 (now p ≡ payloadAt (now s) n)))
+  -- the part holds the payload and starts where the payload does
+  abbrev IsPart : RefT (List ℕ) → Type 0
+  IsPart p = (now p ≡ payloadAt (now s) n) × (ptr p ≡ payloadStart (now s) n (ptr s))
 
-  module _ (r : StepNumbers) (p : RefT (List ℕ)) (e : r ≡ stepNumbers (now s) n) (e′ : now p ≡ payloadAt (now s) n)
+  payload-said : (p : RefT (List ℕ)) → ent 𝓤 (ensured 𝓤 H A payload.ended (payload.clauses 𝓤 H A mem run) (κ, tt) (s, (n, tt)) tt p) (fact 𝓤 (IsPart p))
+  payload-said p = exE 𝓤 _ (λ ws. snd∗ 𝓤 (sem 𝓤 H A (lasts payload.ended (κ, tt) (s, (n, tt)) ws)) (fact 𝓤 (IsPart p)))
+
+  module _ (r : StepNumbers) (p : RefT (List ℕ)) (e : r ≡ stepNumbers (now s) n) (e′ : IsPart p)
       (refusal-fits : r .refusal < 2 ^ 8) (place-fits : r .place < 2 ^ 64) (kind-fits : r .kind < 2 ^ 16) (next-fits : r .next < 2 ^ 64) where
     exits : ent 𝓤 (⋆ 𝓤 H A (‵ (Own p (val p)) ∷ (‵ (flft κ q) ⊛ ‵ ftrue) ∷ ‵ (Own s (val s)) ∷ [])) (Post (T′.lowered (made r p)))
     exits =
         qed W (‵ (Own p (val p)) ∷ (‵ (flft κ q) ⊛ ‵ ftrue) ∷ ‵ (Own s (val s)) ∷ []) ∵
-        suffices ! _ (ends-at 𝓤 H A step.ended stayed (step.clauses 𝓤 H A mem run) W (((κ, tt), (q, tt), tt, (s, (n, tt)), at), tt) (T′.lowered (made r p)) (made r p) (tt, (tt, tt)) (tt, (tt, tt))) $ says ! (e, e′) $
+        suffices ! _ (ends-at 𝓤 H A step.ended stayed (step.clauses 𝓤 H A mem run) W (((κ, tt), (q, tt), tt, (s, (n, tt)), at), tt) (T′.lowered (made r p)) (made r p) (tt, (tt, tt)) (tt, (tt, tt))) $ says ! (e, e′ .0, e′ .1) $
         move ! (1 ∷ []) $ frame ! $ nothing ! $ owned ! usize (Is usize) (uint-makes 𝓤 H A W w64) n _ (refl, ok) $ fjoin ! $ move ! (2 ∷ 0 ∷ []) $ fjoin ! $ frame ! $
         -- [what the part owns]: with the facts of the numbers, what the answer owns
         nothing ! $ move ! (1 ∷ 0 ∷ []) $ fjoin ! $
@@ -158,7 +162,7 @@ module _ {M : Type 1} (𝓤 : URA M) (H : Heap 𝓤) (A : Atoms 𝓤) (W : Given
         drop ! $ move ! (1 ∷ 0 ∷ []) $ use2 W (raw (Payload 𝓤 H A mem run .pre to-payload) ⊛ ‵ (Own s (val s))) (passes (Payload 𝓤 H A mem run .pre to-payload) asks-payload) $ split ! $
         calls-at ! fm (Payload 𝓤 H A mem run) known-payload to-payload (and-then ! (load ! (from ! (stop !)) (look ! 8 refl)) (and-then ! (load ! (from ! (stop !)) (look ! 6 refl)) (no-more !))) (λ u′.
         use1 W (later (some (λ (p : RefT (List ℕ)). ((‵ (flft κ q) ⊛ ‵ ftrue) ⊛ ‵ (Own p u′)) ⊛ raw (ensured 𝓤 H A payload.ended (payload.clauses 𝓤 H A mem run) (κ, tt) (s, (n, tt)) tt p)))) (id⊢ 𝓤 _) $ await ! tt $ pick ! (λ p.
-        split ! $ move ! (1 ∷ []) $ use1 W (raw (fact 𝓤 (now p ≡ payloadAt (now s) n))) (payload-said p) $ heard ! (now p ≡ payloadAt (now s) n) (λ e′. split ! $ move ! (1 ∷ []) $
+        split ! $ move ! (1 ∷ []) $ use1 W (raw (fact 𝓤 (IsPart p))) (payload-said p) $ heard ! (IsPart p) (λ e′. split ! $ move ! (1 ∷ []) $
         -- [what the part owns; the token; what s owns; room for _4; …; _3; …; _2; …; _1; …; room for _0; …]
         peeks ! (ShrSlice (named 0) κ u8) (Is (ShrSlice (named 0) κ u8)) (shows 𝓤 H A (ShrSlice (named 0) κ u8)) p (u′ ∷ []) (λ is′.
         let part = ap only (shr-slice-tells (named 0) κ u8 p (u′ ∷ []) is′) in
