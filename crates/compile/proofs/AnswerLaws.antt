@@ -87,7 +87,7 @@ netlist-is bytes = refl
 
 -- a matrix record that is declined
 pub declined : (bytes buffer : List ℕ) (refusal : ℕ) → refusal ≡ matrixRefusal bytes → (refusal ≡ 0 → ⊥)
-    → (compileRefused refusal ≡ compileAnswer bytes (length buffer)) × (buffer ≡ compileBuffer bytes buffer)
+    → (compileRefused refusal 0 ≡ compileAnswer bytes (length buffer)) × (buffer ≡ compileBuffer bytes buffer)
 declined bytes buffer zero e h = absurd (h refl)
 declined bytes buffer (suc r) e h = (sym (answer-refused bytes r (length buffer) (sym e)), sym (buffer-refused bytes r buffer (sym e)))
 

@@ -119,11 +119,11 @@ module _ (bytes : List ℕ) (all : AreBytes bytes) (accepted : matrixRefusal byt
 -- ---- the answer and the buffer, case by case
 
 module _ (bytes : List ℕ) where
-  pub answer-refused : (r room : ℕ) → matrixRefusal bytes ≡ suc r → compileAnswer bytes room ≡ compileRefused (suc r)
+  pub answer-refused : (r room : ℕ) → matrixRefusal bytes ≡ suc r → compileAnswer bytes room ≡ compileRefused (suc r) 0
   unfolding compileAnswer
   answer-refused r room e = rw (e, compileAnswer)
 
-  pub answer-short : (room : ℕ) → matrixRefusal bytes ≡ 0 → room < length (compiledBytes bytes) → compileAnswer bytes room ≡ compileRefused 6
+  pub answer-short : (room : ℕ) → matrixRefusal bytes ≡ 0 → room < length (compiledBytes bytes) → compileAnswer bytes room ≡ compileRefused 6 0
   unfolding compileAnswer
   answer-short room e h = rw (e, lt-ltb room (length (compiledBytes bytes)) h, compileAnswer)
 

@@ -10,4 +10,5 @@ pub mod Netlist
 pub mod Weights
 pub mod Narrow
 pub mod Compiled
+pub mod CompileTests
 pub mod Marked

@@ -51,9 +51,9 @@ netlistOf s m n e =
 
 -- ---- compile's answer
 
-abbrev pub compileRefused : ℕ → CompileAnswer
-compileRefused r =
-    record { refusal = r; place = 0; written = 0; operations = 0; plain = 0; divisors = 0; replacements = 0; depth = 0 }
+abbrev pub compileRefused : ℕ → ℕ → CompileAnswer
+compileRefused r place =
+    record { refusal = r; place = place; written = 0; operations = 0; plain = 0; divisors = 0; replacements = 0; depth = 0 }
 
 abbrev pub eliminationOf : List ℕ → Eliminated
 eliminationOf bytes = matrixElimination positions (columns bytes) (matrix bytes)
@@ -81,8 +81,8 @@ compileAccepted bytes =
 unfoldable pub compileAnswer : List ℕ → ℕ → CompileAnswer
 compileAnswer bytes room =
     elim (matrixRefusal bytes) [
-      | suc r ↦ compileRefused (suc r)
-      | zero ↦ elim (ltb room (length (compiledBytes bytes))) [ true ↦ compileRefused 6 | false ↦ compileAccepted bytes ]
+      | suc r ↦ compileRefused (suc r) 0
+      | zero ↦ elim (ltb room (length (compiledBytes bytes))) [ true ↦ compileRefused 6 0 | false ↦ compileAccepted bytes ]
     ]
 
 -- the buffer afterwards: the netlist's bytes followed by the old bytes, or the old bytes where compile refuses

@@ -1,5 +1,6 @@
 pub mod Chains
 pub mod Compile
+pub mod Tests
 pub mod Sums
 pub mod Limits
 pub mod Compiled

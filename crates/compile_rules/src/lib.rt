@@ -18,7 +18,7 @@ pub struct CompileAnswer {
 impl CompileAnswer {
     // a refusal, with the place and all counts 0
     pub fn refused(refusal: u8) -> CompileAnswer
-        ensures { λ r. ⌜ r ≡ compileRefused refusal ⌝ }
+        ensures { λ r. ⌜ r ≡ compileRefused refusal 0 ⌝ }
     {
         CompileAnswer {
             refusal,

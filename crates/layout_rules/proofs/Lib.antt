@@ -10,3 +10,5 @@ pub mod Found
 pub mod RecordKinds
 pub mod FirstRecords
 pub mod InBytes
+pub mod TestLaws
+pub mod MatrixTests

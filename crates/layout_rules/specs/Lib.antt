@@ -4,3 +4,4 @@ pub mod Matrix
 pub mod Step
 pub mod Places
 pub mod Written
+pub mod Tests

@@ -11,18 +11,20 @@ use lib.Seq.{ext-getD}
 use Rattle.layout_rules.specs.Matrix.{matrixRefusal, matrix}
 use Rattle.layout_rules.specs.Records.{Netlist}
 use Rattle.layout_rules.specs.Places.{headAt, operationsIn, totalsPlaceIn, netlistIn}
+use Rattle.layout_rules.specs.Tests.{Test, tested, AllPass, FirstFails, firstTests, matrixTests}
 use Rattle.layout_rules.proofs.LittleEndian.{AreBytes}
 use Rattle.layout_rules.proofs.MatrixRows.{matrix-length}
+use Rattle.layout_rules.proofs.MatrixTests.{matrix-refused}
+use Rattle.layout_rules.proofs.TestLaws.{RefusedBy, NumbersBelow, numbers-append, numbers-first, number-below, all-append, all-split, first-all, all-first, fails-split, fails-after, fails-not-all, fails-among}
 use Rattle.board_rules.specs.Machine.{machine, outputValue, times}
 use Rattle.netlist_rules.specs.Read.{accepted}
 use Rattle.netlist_rules.specs.Check.{checked, checkAnswer}
 use Rattle.netlist_rules.specs.Run.{netlistOutputs}
 use Rattle.netlist_rules.specs.Exact.{IsNetlistBytes, Computes, ComputesRow, SameSize, IsNetlistOf, LowestRow}
-use Rattle.netlist_rules.specs.Tests.{Test, tested, AllPass, FirstFails, headTests, operationTests, outputTests, totalsTests, firstTests, readTests, matrixTests, rowTests, checkTests}
-use Rattle.netlist_rules.proofs.TestLaws.{RefusedBy, NumbersBelow, numbers-append, numbers-first, number-below, all-append, all-split, first-all, all-first, fails-split, fails-after, fails-not-all, fails-among}
+use Rattle.netlist_rules.specs.Tests.{headTests, operationTests, outputTests, totalsTests, readTests, rowTests, checkTests}
 use Rattle.netlist_rules.proofs.ReadTests.{reading-accepted, reading-netlist}
 use Rattle.netlist_rules.proofs.ReadAccepts.{all-pass-netlist, reading-of}
-use Rattle.netlist_rules.proofs.CheckTests.{getD-map, matrix-refused, check-refuses, check-passes}
+use Rattle.netlist_rules.proofs.CheckTests.{getD-map, check-refuses, check-passes}
 
 -- ---- all rows together
 

@@ -2,59 +2,34 @@
 -- Assumes nothing.
 use Prim.Native.Nat.{ℕ, zero, suc, _+_, _<_, _≤_}
 use mathlib.Core.Path.{_≡_, refl, sym, _∙_, ap}
-use mathlib.Core.Bool.{Bool, true, false, not, _&&_, true≢false}
+use mathlib.Core.Bool.{Bool, true, false, _&&_, true≢false}
 use mathlib.Core.Logic.{_↔_, inl, inr}
 use mathlib.Core.List.{List, [], _∷_, _++_, map}
 use native.Mathlib.Omega.{arith}
-use lib.Dec.{ltb, eqb}
+use lib.Dec.{eqb}
 use lib.IntN.{ℤ, pos}
 use lib.ListN.{length, getD, drop, drop-of-length-le}
 use lib.Seq.{drop-cons}
-use borrow.Author.Tests.{ltb-false, le-ltb, eqb-true, eq-eqb, not-false}
-use Rattle.limits.specs.Size.{SizeLimits, sizeOutside}
-use Rattle.limits.proofs.Size.{size-within, size-inside}
 use Rattle.layout_rules.specs.declared.Output.{Output}
-use Rattle.layout_rules.specs.Bytes.{word}
-use Rattle.layout_rules.specs.Matrix.{rows, columns, matrixLength, matrixRefusal, matrix}
+use Rattle.layout_rules.specs.Matrix.{rows, columns, matrixRefusal, matrix}
 use Rattle.layout_rules.specs.Records.{Netlist}
 use Rattle.layout_rules.specs.Places.{outputAt, operationsIn, netlistIn}
+use Rattle.layout_rules.specs.Tests.{Test, tested, AllPass, FirstFails, firstTests, matrixTests}
 use Rattle.layout_rules.proofs.FirstRecords.{length-first}
 use Rattle.layout_rules.proofs.MatrixRows.{matrix-length, matrix-row-length}
+use Rattle.layout_rules.proofs.MatrixTests.{matrix-refused}
+use Rattle.layout_rules.proofs.TestLaws.{Decided, all-append, fails-after, fails-among, behind-refusal, behind-test, declined-first, passed-all}
 use Rattle.board_rules.specs.Machine.{machine, outputValue, outputForm}
 use Rattle.netlist_rules.specs.Read.{refused, accepted, readNetlist}
 use Rattle.netlist_rules.specs.Check.{checked, sameRow, rowsAnswer, matchAnswer, checkAnswer}
 use Rattle.netlist_rules.specs.Run.{netlistOutputs}
 use Rattle.netlist_rules.specs.Exact.{SameSize, ComputesRow}
-use Rattle.netlist_rules.specs.Tests.{Test, tested, AllPass, FirstFails, firstTests, readTests, matrixTests, rowTests, checkTests}
+use Rattle.netlist_rules.specs.Tests.{readTests, rowTests, checkTests}
 use Rattle.netlist_rules.specs.declared.CheckAnswer.{CheckAnswer}
-use Rattle.netlist_rules.proofs.TestLaws.{Decided, RefusedBy, one-fault, no-test, all-append, fails-after, fails-among, behind-refusal, behind-reading, behind-test, declined-first, passed-all}
+use Rattle.netlist_rules.proofs.ReadingLaws.{behind-reading}
 use Rattle.netlist_rules.proofs.Conditions.{and-says, same-says}
 use Rattle.netlist_rules.proofs.ReadTests.{read-decided}
 use Rattle.netlist_rules.proofs.Coefficients.{row-says}
-
--- ---- 1 to 5: the matrix record
-
-module _ (b : List ℕ) where
-  short-says : (ltb (length b) 6 ≡ false) ↔ (6 ≤ length b)
-  short-says = (ltb-false (length b) 6, le-ltb (length b) 6)
-
-  other-says : (x y : ℕ) → (not (eqb x y) ≡ false) ↔ (x ≡ y)
-  other-says x y = (λ e. eqb-true x y (not-false _ e), λ e. rw (eq-eqb x y e))
-
-  pub matrix-refused : RefusedBy (matrixTests b) (matrixRefusal b) 0
-  unfolding matrixRefusal
-  matrix-refused =
-      let size = length b ≡ matrixLength (rows b) (columns b) in
-      let from-five = tested 5 0 size ∷ [] in
-      let from-four = tested 4 0 (SizeLimits (rows b) (columns b)) ∷ from-five in
-      let from-three = tested 3 0 (word b 2 ≡ 1) ∷ from-four in
-      let from-two = tested 2 0 (word b 0 ≡ length b) ∷ from-three in
-      one-fault from-two (ltb (length b) 6) (6 ≤ length b) 1 0 _ (omega arith) short-says
-      (one-fault from-three (not (eqb (word b 0) (length b))) (word b 0 ≡ length b) 2 0 _ (omega arith) (other-says (word b 0) (length b))
-      (one-fault from-four (not (eqb (word b 2) 1)) (word b 2 ≡ 1) 3 0 _ (omega arith) (other-says (word b 2) 1)
-      (one-fault from-five (sizeOutside (rows b) (columns b)) (SizeLimits (rows b) (columns b)) 4 0 _ (omega arith) (size-within (rows b) (columns b), size-inside (rows b) (columns b))
-      (one-fault [] (not (eqb (length b) (matrixLength (rows b) (columns b)))) size 5 0 0 (omega arith)
-      (other-says (length b) (matrixLength (rows b) (columns b))) (no-test 0)))))
 
 -- ---- 14: row by row
 

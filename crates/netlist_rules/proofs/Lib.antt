@@ -1,5 +1,5 @@
 -- Theorems about reading, checking and running a netlist, lowest first.
-pub mod TestLaws
+pub mod ReadingLaws
 pub mod Conditions
 pub mod ReadTests
 pub mod ReadAccepts

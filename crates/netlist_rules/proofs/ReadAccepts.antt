@@ -15,12 +15,14 @@ use Rattle.layout_rules.specs.declared.StepNumbers.{StepNumbers}
 use Rattle.layout_rules.specs.Records.{Netlist, headLength, headPayload, headBytes, operationLength, operationPayload, operationBytes, outputKind, outputLength, outputPayload, outputBytes, totalsKind, totalsLength, totalsPayload, totalsBytes, netlistBytes}
 use Rattle.layout_rules.specs.Places.{operationPlace, outputPlace, totalsPlace, payloadOf, headAt, operationAt, outputAt, totalsAt, firstRecords, firstOperations, firstOutputs, operationsIn, outputsIn, totalsPlaceIn, netlistIn}
 use Rattle.layout_rules.specs.Step.{stepRefusal, stepNumbers}
+use Rattle.layout_rules.specs.Tests.{AllPass, firstTests}
 use Rattle.layout_rules.proofs.LittleEndian.{AreBytes}
 use Rattle.layout_rules.proofs.Accepted.{not-refused, accepted-step, numbers-accepted}
 use Rattle.layout_rules.proofs.FirstRecords.{length-first, first-split, first-before, first-is}
 use Rattle.layout_rules.proofs.Found.{accepted as step-accepted, numbers-refusal, next-place}
 use Rattle.layout_rules.proofs.Lengths.{operation-place, output-place, totals-place, length-netlist}
 use Rattle.layout_rules.proofs.RecordKinds.{Kind, Found, bytesOf, found, there, head as head-kind, operation as operation-kind, output as output-kind, totals as totals-kind}
+use Rattle.layout_rules.proofs.TestLaws.{Decided, all-append, all-split, first-all, all-first}
 use Rattle.board_rules.specs.Machine.{machine, entryAt, operationValue}
 use Rattle.board_rules.specs.Netlist.{OperationLimits, WidthRight, IsOperation, IsOutput, IsNetlist}
 use Rattle.board_rules.proofs.MachineLaws.{machine-keeps-after, machine-last}
@@ -28,8 +30,7 @@ use Rattle.board_rules.proofs.WidthLaws.{width-same}
 use Rattle.netlist_rules.specs.Read.{accepted, readNetlist, readAnswer, readAnswerOf, readRefused, readAccepted}
 use Rattle.netlist_rules.specs.declared.ReadAnswer.{ReadAnswer}
 use Rattle.netlist_rules.specs.Exact.{readLimits, IsNetlistBytes}
-use Rattle.netlist_rules.specs.Tests.{AllPass, Whole, Expected, headTests, firstTests, operationTests, outputTests, totalsTests, readTests}
-use Rattle.netlist_rules.proofs.TestLaws.{Decided, all-append, all-split, first-all, all-first}
+use Rattle.netlist_rules.specs.Tests.{Whole, Expected, headTests, operationTests, outputTests, totalsTests, readTests}
 use Rattle.netlist_rules.proofs.ReadTests.{reading-accepted, reading-netlist, read-answer-decided}
 
 -- ---- a record that passes 7 and 8 stands at its place, and one that stands there passes

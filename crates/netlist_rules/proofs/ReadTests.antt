@@ -18,15 +18,17 @@ use Rattle.layout_rules.specs.Bytes.{word}
 use Rattle.layout_rules.specs.Records.{Netlist, headKind, headLength, operationKind, operationLength, outputKind, outputLength, totalsKind, totalsLength}
 use Rattle.layout_rules.specs.Places.{operationPlace, outputPlace, totalsPlace, headAt, operationAt, outputAt, totalsAt, firstOperations, firstOutputs, operationsIn, outputsIn, totalsPlaceIn, netlistIn}
 use Rattle.layout_rules.specs.Step.{remaining, stepRefusal}
+use Rattle.layout_rules.specs.Tests.{Test, tested, AllPass, FirstFails, firstTests}
 use Rattle.layout_rules.proofs.Accepted.{no-header, overrun, below-least, not-refused}
 use Rattle.layout_rules.proofs.FirstRecords.{length-first}
+use Rattle.layout_rules.proofs.TestLaws.{Decided, RefusedBy, one-test, no-test, both-parts, answer-decided, declined-first, passed-all}
 use Rattle.board_rules.specs.Machine.{machine, operationValue, outputValue}
 use Rattle.board_rules.specs.Netlist.{HeadLimits, OperationLimits, OutputLimits, WidthRight, TotalsRight}
 use Rattle.netlist_rules.specs.Read.{Reading, refused, accepted, andThen, readRecord, recordRefusal, headInRange, headRefusal, operationInRange, operationWidth, operationRefusal, outputInRange, outputWidth, outputRefusal, totalsRight, totalsRefusal, widthRight, leftoverRefusal, readHead, readOperations, readOutputs, readTotals, readNetlist, readRefused, readAccepted, readAnswerOf, readAnswer}
 use Rattle.netlist_rules.specs.declared.ReadAnswer.{ReadAnswer}
 use Rattle.netlist_rules.specs.Exact.{readLimits}
-use Rattle.netlist_rules.specs.Tests.{Test, tested, AllPass, FirstFails, Whole, Expected, recordTests, headTests, firstTests, operationTests, outputTests, totalsTests, readTests}
-use Rattle.netlist_rules.proofs.TestLaws.{Decided, RefusedBy, one-test, no-test, both-parts, record-decided, then-decided, records-decided, answer-decided, declined-first, passed-all}
+use Rattle.netlist_rules.specs.Tests.{Whole, Expected, recordTests, headTests, operationTests, outputTests, totalsTests, readTests}
+use Rattle.netlist_rules.proofs.ReadingLaws.{record-decided, then-decided, records-decided}
 use Rattle.netlist_rules.proofs.Conditions.{and-says, same-says, head-says, operation-says, operation-width-says, output-says, output-width-says, totals-says}
 
 -- ---- 7 and 8: the record due at a place

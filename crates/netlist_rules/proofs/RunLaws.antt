@@ -15,15 +15,17 @@ use Rattle.limits.specs.Limits.{sampleWidth}
 use Rattle.layout_rules.specs.Matrix.{matrix}
 use Rattle.layout_rules.specs.Records.{Netlist}
 use Rattle.layout_rules.specs.Places.{headAt, netlistIn}
+use Rattle.layout_rules.specs.Tests.{tested, AllPass, FirstFails}
 use Rattle.layout_rules.proofs.LittleEndian.{AreBytes}
+use Rattle.layout_rules.proofs.TestLaws.{Decided, behind-test, declined-first, passed-all, all-split}
 use Rattle.board_rules.specs.Machine.{times}
 use Rattle.board_rules.specs.Width.{Samples}
 use Rattle.netlist_rules.specs.Read.{Reading, refused, accepted, readNetlist}
 use Rattle.netlist_rules.specs.Run.{ran, countsAnswer, runAnswer, netlistOutputs, runOutputs}
 use Rattle.netlist_rules.specs.Exact.{IsNetlistBytes, IsNetlistOf}
-use Rattle.netlist_rules.specs.Tests.{tested, AllPass, FirstFails, readTests, runTests}
+use Rattle.netlist_rules.specs.Tests.{readTests, runTests}
 use Rattle.netlist_rules.specs.declared.RunAnswer.{RunAnswer}
-use Rattle.netlist_rules.proofs.TestLaws.{Decided, behind-reading, behind-test, declined-first, passed-all, all-split}
+use Rattle.netlist_rules.proofs.ReadingLaws.{behind-reading}
 use Rattle.netlist_rules.proofs.Conditions.{same-says}
 use Rattle.netlist_rules.proofs.ReadTests.{read-decided}
 use Rattle.netlist_rules.proofs.ReadAccepts.{all-pass-netlist, reading-of}

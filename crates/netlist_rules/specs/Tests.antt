@@ -1,42 +1,23 @@
 -- Document 01, "Why a record was declined": the tests of read, check and run in their order, each with the number and the place that
--- are returned where it is the first that fails. Nothing here computes an answer; read, check and run are held to these lists.
+-- are returned where it is the first that fails. Nothing here computes an answer; read, check and run are held to these lists. The tests
+-- of a matrix record, 1 to 5, are those of `layout_rules`.
 -- Assumes nothing.
-use Prim.Native.Nat.{ℕ, zero, suc, _+_, _≤_}
+use Prim.Native.Nat.{ℕ, _+_, _≤_}
 use mathlib.Core.Path.{_≡_}
-use mathlib.Core.Logic.{_⊎_}
 use mathlib.Core.List.{List, [], _∷_, _++_}
 use lib.IntN.{ℤ}
 use lib.ListN.{length}
-use Rattle.limits.specs.Size.{SizeLimits}
 use Rattle.layout_rules.specs.declared.Head.{Head}
 use Rattle.layout_rules.specs.declared.Operation.{Operation}
 use Rattle.layout_rules.specs.Bytes.{word}
-use Rattle.layout_rules.specs.Matrix.{rows, columns, matrixLength, matrix}
+use Rattle.layout_rules.specs.Matrix.{matrix}
 use Rattle.layout_rules.specs.Records.{Netlist, headKind, headLength, operationKind, operationLength, outputKind, outputLength, totalsKind, totalsLength}
 use Rattle.layout_rules.specs.Places.{operationPlace, outputPlace, headAt, operationAt, outputAt, totalsAt, firstOperations, operationsIn, totalsPlaceIn, netlistIn}
 use Rattle.layout_rules.specs.Step.{remaining}
+use Rattle.layout_rules.specs.Tests.{Test, tested, firstTests, matrixTests}
 use Rattle.board_rules.specs.Machine.{machine, operationValue, outputValue}
 use Rattle.board_rules.specs.Netlist.{HeadLimits, OperationLimits, OutputLimits, WidthRight, TotalsRight}
 use Rattle.netlist_rules.specs.Exact.{readLimits, SameSize, ComputesRow}
-
--- a test's number and place, and what holds where it passes
-pub record Test : Type 1 where
-  pub number : ℕ
-  pub place : ℕ
-  pub passes : Type 0
-
-abbrev pub tested : ℕ → ℕ → Type 0 → Test
-tested number place passes = record { number = number; place = place; passes = passes }
-
-abbrev pub AllPass : List Test → Type 0
-AllPass [] = Unit {0}
-AllPass (t ∷ ts) = t .passes × AllPass ts
-
--- the first test that fails has this number and this place
-abbrev pub FirstFails : List Test → ℕ → ℕ → Type 0
-FirstFails [] number place = ⊥
-FirstFails (t ∷ ts) number place =
-    ((t .passes → ⊥) × (number ≡ t .number) × (place ≡ t .place)) ⊎ (t .passes × FirstFails ts number place)
 
 -- Below, a comment says in document 01's words when the test fails, and the statement what holds where it passes.
 
@@ -57,11 +38,6 @@ recordTests bytes place kind size = tested 7 place (Whole bytes place) ∷ teste
 
 abbrev pub headTests : List ℕ → List Test
 headTests bytes = recordTests bytes 0 headKind headLength ++ (tested 9 0 (HeadLimits readLimits (headAt bytes)) ∷ [])
-
--- the tests of the first k records of a kind
-unfoldable pub firstTests : (ℕ → List Test) → ℕ → List Test
-firstTests tests zero = []
-firstTests tests (suc k) = firstTests tests k ++ tests k
 
 -- operation k, behind the k operations before it
 abbrev pub operationTests : List ℕ → ℕ → ℕ → List Test
@@ -96,17 +72,6 @@ readTests bytes =
     ++ totalsTests bytes (totalsPlaceIn bytes) h os))
 
 -- ---- check: 1 to 5, 7 to 12, 13, 14
-
--- 1: fewer than 6 bytes; 2: length field differs from the number of bytes lent; 3: kind is not 1; 4: m or n outside 1 to 8;
--- 5: length is not 6 + 2 times m times n
-abbrev pub matrixTests : List ℕ → List Test
-matrixTests bytes =
-    tested 1 0 (6 ≤ length bytes)
-    ∷ tested 2 0 (word bytes 0 ≡ length bytes)
-    ∷ tested 3 0 (word bytes 2 ≡ 1)
-    ∷ tested 4 0 (SizeLimits (rows bytes) (columns bytes))
-    ∷ tested 5 0 (length bytes ≡ matrixLength (rows bytes) (columns bytes))
-    ∷ []
 
 -- 14, place = row: its coefficients differ, that is, output i is not row i times vector for every vector of samples
 abbrev pub rowTests : Netlist → List (List ℤ) → ℕ → List Test

@@ -20,11 +20,12 @@ use Rattle.layout_rules.specs.Places.{operationPlace, outputPlace, headAt, oper
 use Rattle.layout_rules.specs.Step.{stepRefusal, stepNumbers}
 use Rattle.layout_rules.proofs.Accepted.{numbers-refused, numbers-accepted}
 use Rattle.layout_rules.proofs.FirstRecords.{length-first}
+use Rattle.layout_rules.proofs.TestLaws.{RefusedBy}
 use Rattle.board_rules.specs.Netlist.{HeadLimits, OperationLimits, OutputLimits, TotalsRight}
 use Rattle.netlist_rules.specs.Read.{refused, accepted, readRecords, recordRefusal, headInRange, headRefusal, operationInRange, operationWidth, operationRefusal, outputInRange, outputWidth, outputRefusal, totalsRight, totalsRefusal, widthRight}
 use Rattle.netlist_rules.specs.Exact.{readLimits}
 use Rattle.netlist_rules.specs.Tests.{recordTests}
-use Rattle.netlist_rules.proofs.TestLaws.{RefusedBy, read-more, read-stops}
+use Rattle.netlist_rules.proofs.ReadingLaws.{read-more, read-stops}
 use Rattle.netlist_rules.proofs.Conditions.{and-says, same-says, at-most-says, head-says, operation-says, output-says, totals-says}
 use Rattle.netlist_rules.proofs.ReadTests.{record-refused}
 

@@ -6,10 +6,8 @@ use mathlib.Core.Bool.{Bool, true, false, cond, true≢false}
 use mathlib.Core.Logic.{_↔_, _⊎_, inl, inr, ⊎-elim}
 use mathlib.Core.List.{List, [], _∷_, _++_}
 use native.Mathlib.Omega.{arith}
-use Rattle.layout_rules.specs.Places.{firstRecords}
-use Rattle.layout_rules.proofs.FirstRecords.{last-or-earlier, length-first}
-use Rattle.netlist_rules.specs.Read.{Reading, refused, accepted, andThen, readRecord, readRecords}
-use Rattle.netlist_rules.specs.Tests.{Test, tested, AllPass, FirstFails, firstTests}
+use Rattle.layout_rules.proofs.FirstRecords.{last-or-earlier}
+use Rattle.layout_rules.specs.Tests.{Test, tested, AllPass, FirstFails, firstTests}
 
 -- ---- tests one after another
 
@@ -144,24 +142,7 @@ both-parts ts us zero later place (inr f) d = absurd (omega arith)
 both-parts ts us (suc first) later place (inl a) d = absurd (omega arith)
 both-parts ts us (suc first) later place (inr f) d = inr (f .0, fails-before (suc first) place ts us (f .1))
 
--- a record is read
-pub record-decided : {A : Type 0} (ts : List Test) (refusal place : ℕ) (x : A) → RefusedBy ts refusal place
-    → Decided ts (readRecord refusal place x) (accepted x) refused
-record-decided ts zero place x (inl a) = inl (refl, a .1)
-record-decided ts zero place x (inr f) = absurd (omega arith)
-record-decided ts (suc r) place x (inl a) = absurd (omega arith)
-record-decided ts (suc r) place x (inr f) = inr (suc r, place, f .0, refl, f .1)
-
--- one record after another; the later tests are those behind what stands in the first
-pub then-decided : {A B : Type 0} (ts us : List Test) (first : Reading A) (rest : A → Reading B) (x : A) (y : B)
-    → Decided ts first (accepted x) refused → Decided us (rest x) (accepted y) refused
-    → Decided (ts ++ us) (andThen first rest) (accepted y) refused
-then-decided ts us first rest x y (inl a) (inl d) = inl (ap (λ m. andThen m rest) (a .0) ∙ d .0, all-append ts us (a .1) (d .1))
-then-decided ts us first rest x y (inl a) (inr d) =
-    inr (d .0, d .1, d .2, ap (λ m. andThen m rest) (a .0) ∙ d .3, fails-after (d .0) (d .1) ts us (a .1) (d .4))
-then-decided ts us first rest x y (inr f) d = inr (f .0, f .1, f .2, ap (λ m. andThen m rest) (f .3), fails-before (f .0) (f .1) ts us (f .4))
-
--- ---- answers that go on behind a record's refusal, behind a netlist, and behind one more test
+-- ---- answers that go on behind a record's refusal, and behind one more test
 
 pub behind-refusal : {X : Type 0} (ts us : List Test) (refusal place : ℕ) (later passed : X) (declined : ℕ → ℕ → X)
     → RefusedBy ts refusal place → Decided us later passed declined
@@ -172,19 +153,6 @@ behind-refusal ts us zero place later passed declined (inr f) d = absurd (omega 
 behind-refusal ts us (suc r) place later passed declined (inl a) d = absurd (omega arith)
 behind-refusal ts us (suc r) place later passed declined (inr f) d = inr (suc r, place, f .0, refl, fails-before (suc r) place ts us (f .1))
 
-pub behind-reading : {A X : Type 0} (ts us : List Test) (reading : Reading A) (x : A) (next : A → X) (passed : X) (declined : ℕ → ℕ → X)
-    → Decided ts reading (accepted x) refused → Decided us (next x) passed declined
-    → Decided (ts ++ us) (elim reading [ refused r p ↦ declined r p | accepted y ↦ next y ]) passed declined
-behind-reading {A = A} {X = X} ts us reading x next passed declined = go
-  where
-    answer : Reading A → X
-    answer m = elim m [ refused r p ↦ declined r p | accepted y ↦ next y ]
-
-    go : Decided ts reading (accepted x) refused → Decided us (next x) passed declined → Decided (ts ++ us) (answer reading) passed declined
-    go (inl a) (inl d) = inl (ap answer (a .0) ∙ d .0, all-append ts us (a .1) (d .1))
-    go (inl a) (inr d) = inr (d .0, d .1, d .2, ap answer (a .0) ∙ d .3, fails-after (d .0) (d .1) ts us (a .1) (d .4))
-    go (inr f) d = inr (f .0, f .1, f .2, ap answer (f .3), fails-before (f .0) (f .1) ts us (f .4))
-
 pub behind-test : {X : Type 0} (us : List Test) (t : Bool) (P : Type 0) (number place : ℕ) (later passed : X) (declined : ℕ → ℕ → X)
     → 0 < number → (t ≡ true) ↔ P → (P → Decided us later passed declined)
     → Decided (tested number place P ∷ us) (elim t [ true ↦ later | false ↦ declined number place ]) passed declined
@@ -194,7 +162,16 @@ behind-test us true P number place later passed declined h is d =
 behind-test us false P number place later passed declined h is d =
     inr (number, place, h, refl, inl (λ p. true≢false (sym (is .1 p)), refl, refl))
 
--- ---- records of one kind, one after another
+-- a test of the fault
+pub behind-fault : {X : Type 0} (us : List Test) (t : Bool) (P : Type 0) (number place : ℕ) (later passed : X) (declined : ℕ → ℕ → X)
+    → 0 < number → (t ≡ false) ↔ P → (P → Decided us later passed declined)
+    → Decided (tested number place P ∷ us) (elim t [ true ↦ declined number place | false ↦ later ]) passed declined
+behind-fault us false P number place later passed declined h is d =
+    let p = is .0 refl in
+    ⊎-elim (λ a. inl (a .0, (p, a .1))) (λ f. inr (f .0, f .1, f .2, f .3, inr (p, f .4))) (d p)
+behind-fault us true P number place later passed declined h is d = inr (number, place, h, refl, inl (λ p. true≢false (is .1 p), refl, refl))
+
+-- ---- tests of records of one kind, one after another
 
 -- the tests of the first k records pass if those of each do
 pub first-all : (tests : ℕ → List Test) (k : ℕ) → ((i : ℕ) → i < k → AllPass (tests i)) → AllPass (firstTests tests k)
@@ -209,49 +186,3 @@ all-first tests (suc k) a i h =
     let both = all-split (firstTests tests k) (tests k) a in
     let earlier = all-first tests k (both .0) i in
     ⊎-elim (λ l. earlier l) (λ e. rw e (both .1)) (last-or-earlier i k h)
-
-module _ {A : Type 0} (refusal : List A → ℕ) (place : ℕ → ℕ) (fields : ℕ → A) where
-  abbrev first : ℕ → List A
-  first = firstRecords fields
-
-  pub read-more : (k j : ℕ) → refusal (first j) ≡ 0 → readRecords refusal place fields (suc k) (first j) ≡ readRecords refusal place fields k (first (suc j))
-  unfolding readRecords firstRecords
-  read-more k j e = rw (e, length-first fields j)
-
-  pub read-stops : (k j : ℕ) → 0 < refusal (first j) → readRecords refusal place fields (suc k) (first j) ≡ refused (refusal (first j)) (place j)
-  unfolding readRecords
-  read-stops k j h = go (refusal (first j)) refl
-    where
-      go : (r : ℕ) → refusal (first j) ≡ r → readRecords refusal place fields (suc k) (first j) ≡ refused (refusal (first j)) (place j)
-      go zero e = absurd (omega arith)
-      go (suc r) e = rw (e, length-first fields j)
-
-  module _ (tests : ℕ → List Test) (each : (k : ℕ) → RefusedBy (tests k) (refusal (first k)) (place k)) where
-    from-decided : (k j : ℕ) → AllPass (firstTests tests j)
-        → Decided (firstTests tests (j + k)) (readRecords refusal place fields k (first j)) (accepted (first (j + k))) refused
-    unfolding readRecords firstTests
-    from-decided zero j a = let e : j + 0 ≡ j = omega arith in rw e (inl (refl, a))
-    from-decided (suc k) j a = go (each j) (from-decided k (suc j))
-      where
-        Result : Type 0
-        Result = Decided (firstTests tests (j + suc k)) (readRecords refusal place fields (suc k) (first j)) (accepted (first (j + suc k))) refused
-
-        further : suc j + k ≡ j + suc k
-        further = omega arith
-
-        go : RefusedBy (tests j) (refusal (first j)) (place j)
-            → (AllPass (firstTests tests (suc j))
-            → Decided (firstTests tests (suc j + k)) (readRecords refusal place fields k (first (suc j))) (accepted (first (suc j + k))) refused)
-            → Result
-        go (inl d) more = rw (read-more k j (d .0), ← further) (more (all-append (firstTests tests j) (tests j) a (d .1)))
-        go (inr f) more = inr (
-          refusal (first j),
-          place j,
-          f .0,
-          read-stops k j (f .0),
-          rw (← further) (fails-among (refusal (first j)) (place j) tests (suc j) k (fails-after (refusal (first j)) (place j) (firstTests tests j) (tests j) a (f .1))),
-        )
-
-    pub records-decided : (k : ℕ) → Decided (firstTests tests k) (readRecords refusal place fields k []) (accepted (first k)) refused
-    unfolding firstTests firstRecords
-    records-decided k = let e : 0 + k ≡ k = omega arith in rw e at (from-decided k 0 tt)
