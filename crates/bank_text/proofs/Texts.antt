@@ -1,7 +1,7 @@
 -- The text of list-bank from what compile answers and leaves in a buffer that suffices for every netlist.
 -- Assumes nothing.
-use Prim.Native.Nat.{ℕ, zero, suc, _+_, _≤_}
-use mathlib.Core.Path.{_≡_, refl, sym, ap, ap₂, _∙_, subst}
+use Prim.Native.Nat.{ℕ, suc, _+_, _≤_}
+use mathlib.Core.Path.{_≡_, sym, ap, ap₂, _∙_, subst}
 use mathlib.Core.List.{List, _++_}
 use native.Mathlib.Omega.{arith}
 use lib.ListN.{length, getD, drop, length-append}
@@ -13,10 +13,10 @@ use Rattle.layout_rules.proofs.LittleEndian.{AreBytes}
 use Rattle.layout_rules.proofs.MatrixRefusal.{AcceptedMatrix, accepted-matrix}
 use Rattle.compile_rules.specs.declared.CompileAnswer.{CompileAnswer}
 use Rattle.compile_rules.specs.Compile.{netlistOf, compileAnswer, compileBuffer, compileAccepted, compiledBytes, compiledNetlist}
-use Rattle.compile_rules.proofs.Compiled.{answer-refused, enough-room, buffer-accepted, compiled-answer, compiled-is, compiled-length, compiled-operations}
+use Rattle.compile_rules.proofs.Compiled.{room-refused, room-accepted, buffer-accepted, compiled-answer, compiled-is, compiled-length, compiled-operations}
+use Rattle.text.specs.Text.{refusedLine}
 use Rattle.listing_rules.specs.declared.Counts.{Counts}
 use Rattle.listing_rules.specs.Listing.{listing}
-use Rattle.text.specs.Text.{refusedLine}
 use Rattle.listing_rules.specs.Records.{listingOf}
 use Rattle.listing_rules.proofs.Records.{listing-of-netlist}
 use Rattle.bank_text.specs.BankText.{countsOf, bankText}
@@ -44,35 +44,24 @@ accepted-text bytes e = sym (rw (e, bankText))
 
 module _ (bytes : List ℕ) (all : AreBytes bytes) (old after : List ℕ) (answer : CompileAnswer)
     (room : enoughBytes ≡ length old) (answered : answer ≡ compileAnswer bytes (length old)) (left : after ≡ compileBuffer bytes old) where
-  takes : matrixRefusal bytes ≡ 0 → answer ≡ compileAccepted bytes
-  takes e = answered ∙ enough-room bytes all (length old) e (omega arith)
-
   -- compile refuses exactly where the matrix record is refused
   pub text-refused : (answer .refusal ≡ 0 → ⊥) → refusedLine (answer .refusal) (answer .place) ≡ bankText bytes
-  text-refused no-zero = go (matrixRefusal bytes) refl
-    where
-      go : (r : ℕ) → matrixRefusal bytes ≡ r → refusedLine (answer .refusal) (answer .place) ≡ bankText bytes
-      go zero e = absurd (no-zero (ap (λ (a : CompileAnswer). a .refusal) (takes e)))
-      go (suc r) e =
-          ap (λ (a : CompileAnswer). refusedLine (a .refusal) (a .place)) (answered ∙ answer-refused bytes r (length old) e)
-          ∙ refused-text bytes r e
-
-  pub not-refused : answer .refusal ≡ 0 → matrixRefusal bytes ≡ 0
-  not-refused is-zero = go (matrixRefusal bytes) refl
-    where
-      go : (r : ℕ) → matrixRefusal bytes ≡ r → matrixRefusal bytes ≡ 0
-      go zero e = e
-      go (suc r) e = absurd (let z : suc r ≡ 0 = sym (ap (λ (a : CompileAnswer). a .refusal) (answered ∙ answer-refused bytes r (length old) e)) ∙ is-zero in omega arith)
+  text-refused no-zero =
+      let is = room-refused bytes all (length old) (omega arith) answer answered no-zero in
+      ap (λ (a : CompileAnswer). refusedLine (a .refusal) (a .place)) (is .2) ∙ refused-text bytes (is .0) (is .1)
 
   module _ (is-zero : answer .refusal ≡ 0) where
     taken : matrixRefusal bytes ≡ 0
-    taken = not-refused is-zero
+    taken = room-accepted bytes all (length old) (omega arith) answer answered is-zero .0
+
+    takes : answer ≡ compileAccepted bytes
+    takes = room-accepted bytes all (length old) (omega arith) answer answered is-zero .1
 
     pub limits : AcceptedMatrix bytes
     limits = accepted-matrix bytes taken
 
     pub few : answer .operations ≤ maxOperations
-    few = subst (λ (a : CompileAnswer). a .operations ≤ maxOperations) (sym (takes taken)) (compiled-operations bytes all taken)
+    few = subst (λ (a : CompileAnswer). a .operations ≤ maxOperations) (sym takes) (compiled-operations bytes all taken)
 
     behind : List ℕ
     behind = drop (length (compiledBytes bytes)) old
@@ -87,12 +76,12 @@ module _ (bytes : List ℕ) (all : AreBytes bytes) (old after : List ℕ) (answe
       arith,
       ap length written ∙ length-append (compiledBytes bytes) behind,
       compiled-answer bytes all taken .written,
-      ap (λ (a : CompileAnswer). a .operations) (takes taken),
+      ap (λ (a : CompileAnswer). a .operations) takes,
     )
 
     pub text-accepted : listingOf (countsFrom bytes answer) after ≡ bankText bytes
     unfolding netlistOf
     text-accepted =
-        ap₂ (λ (a : CompileAnswer) (b : List ℕ). listingOf (countsFrom bytes a) b) (takes taken) written
+        ap₂ (λ (a : CompileAnswer) (b : List ℕ). listingOf (countsFrom bytes a) b) takes written
         ∙ listing-of-netlist (compiledNetlist bytes) (countsOf bytes) behind (sym (compiled-is bytes all taken .count)) (sym (compiled-is bytes all taken .one-per-row))
         ∙ accepted-text bytes taken

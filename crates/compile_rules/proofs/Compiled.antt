@@ -1,8 +1,8 @@
 -- Document 01, "Netlist and board machine": what is proved of any sequence of steps, said of the netlist of a matrix within the limits, and
 -- of compile's netlist, bytes and answer.
 -- Assumes nothing.
-use Prim.Native.Nat.{ℕ, suc, _+_, _≤_, _<_}
-use mathlib.Core.Path.{_≡_, refl, ap, _∙_}
+use Prim.Native.Nat.{ℕ, zero, suc, _+_, _≤_, _<_}
+use mathlib.Core.Path.{_≡_, refl, sym, ap, _∙_}
 use mathlib.Core.List.{List, [], _∷_, _++_, map}
 use native.Mathlib.Omega.{arith}
 use lib.IntN.{ℤ}
@@ -24,6 +24,7 @@ use Rattle.elimination_rules.specs.Elimination.{Eliminated, smallestFirst, matr
 use Rattle.elimination_rules.proofs.Order.{Columns, matrix-well-formed}
 use Rattle.elimination_rules.proofs.Counts.{plain-within, steps-twice}
 use Rattle.elimination_rules.proofs.Elimination.{steps-of}
+use Rattle.compile_rules.specs.declared.CompileAnswer.{CompileAnswer}
 use Rattle.compile_rules.specs.Compile.{operationsOf, outputsOf, outputWithWidth, netlistOf, compileRefused, eliminationOf, compiledNetlist, compiledBytes, compileAccepted, compileAnswer, compileBuffer}
 use Rattle.compile_rules.specs.Compiled.{compiledLimits, AcceptedAnswer}
 use Rattle.compile_rules.specs.Limits.{WithinLimits}
@@ -147,3 +148,19 @@ module _ (bytes : List ℕ) where
 -- "6,136 bytes always suffice."
 pub enough-room : (bytes : List ℕ) → AreBytes bytes → (room : ℕ) → matrixRefusal bytes ≡ 0 → enoughBytes ≤ room → compileAnswer bytes room ≡ compileAccepted bytes
 enough-room bytes all room e h = answer-accepted bytes room e (omega (arith, compiled-length bytes all e))
+
+-- with room for every netlist, compile refuses exactly where the matrix record is refused
+module _ (bytes : List ℕ) (all : AreBytes bytes) (room : ℕ) (enough : enoughBytes ≤ room) (answer : CompileAnswer) (answered : answer ≡ compileAnswer bytes room) where
+  pub room-refused : (answer .refusal ≡ 0 → ⊥) → (r : ℕ) × (matrixRefusal bytes ≡ suc r) × (answer ≡ compileRefused (suc r) 0)
+  room-refused no-zero = go (matrixRefusal bytes) refl
+    where
+      go : (r : ℕ) → matrixRefusal bytes ≡ r → (r : ℕ) × (matrixRefusal bytes ≡ suc r) × (answer ≡ compileRefused (suc r) 0)
+      go zero e = absurd (no-zero (ap (λ (a : CompileAnswer). a .refusal) (answered ∙ enough-room bytes all room e enough)))
+      go (suc r) e = (r, e, answered ∙ answer-refused bytes r room e)
+
+  pub room-accepted : answer .refusal ≡ 0 → (matrixRefusal bytes ≡ 0) × (answer ≡ compileAccepted bytes)
+  room-accepted is-zero = go (matrixRefusal bytes) refl
+    where
+      go : (r : ℕ) → matrixRefusal bytes ≡ r → (matrixRefusal bytes ≡ 0) × (answer ≡ compileAccepted bytes)
+      go zero e = (e, answered ∙ enough-room bytes all room e enough)
+      go (suc r) e = absurd (let z : suc r ≡ 0 = sym (ap (λ (a : CompileAnswer). a .refusal) (answered ∙ answer-refused bytes r room e)) ∙ is-zero in omega arith)
