@@ -1,4 +1,4 @@
-/* Zaatarloft's calls for C and C++: compile, read, check, run and step, as document 01, the specification, has them.
+/* Zaatarloft's calls for C and C++: compile, read, check, run and step, as docs/SPECIFICATION.md, cited as document 01, has them.
  * The library is target/staticlib/libzaatarloft.a, for x86-64 Linux; `rt staticlib zaatarloft` proves and builds it.
  *
  * Every call returns its answer as a struct: the refusal's number, 0 where it accepts, its place, then the other numbers, which
