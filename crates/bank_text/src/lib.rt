@@ -11,7 +11,7 @@ ghost use mathlib.Core.Path.{_≡_};
 ghost use Prim.Native.Nat.{_≤_};
 ghost use lib.ListN.{length};
 ghost use Rattle.layout_rules.specs.Places.{enoughBytes};
-ghost use Rattle.text.specs.Wrote.{Wrote};
+ghost use Rattle.text.specs.Wrote.{Wrote, PrefixLength};
 ghost use Rattle.bank_text.specs.BankText.{bankText, longestBankText, bankTextIn};
 
 // The longest text: that of the most operations and rows.
@@ -28,7 +28,6 @@ fn no_netlist() -> [u8; ENOUGH_BYTES]
 fn write_text(matrix: &[u8], text: &mut [u8]) -> usize
     requires { ⌜ longestBankText ≤ length (now text) ⌝ }
     ensures { λ r. ⌜ Wrote (now (text .entry)) (now (text .exit)) r (bankText (now (matrix .entry))) ⌝ }
-    ensures { λ r. ⌜ r ≤ longestBankText ⌝ }
 {
     let mut netlist = no_netlist();
     let answer = compile::compile(matrix, &mut netlist);
@@ -50,7 +49,7 @@ fn write_text(matrix: &[u8], text: &mut [u8]) -> usize
 // Writes the text at the start of the lent bytes and answers how long it is; nothing where they are too few.
 pub fn write_bank(matrix: &[u8], text: &mut [u8]) -> usize
     ensures { λ r. ⌜ Wrote (now (text .entry)) (now (text .exit)) r (bankTextIn (length (now (text .entry))) (now (matrix .entry))) ⌝ }
-    ensures { λ r. ⌜ r ≤ longestBankText ⌝ }
+    ensures { λ r. ⌜ PrefixLength r (now (text .exit)) ⌝ }
 {
     if text.len() < ROOM {
         return 0;

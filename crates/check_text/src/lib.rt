@@ -2,7 +2,7 @@
 ghost use Prim.Native.Nat.{_≤_};
 ghost use lib.ListN.{length};
 ghost use Rattle.text.specs.Text.{longestRefusedLine};
-ghost use Rattle.text.specs.Wrote.{Wrote};
+ghost use Rattle.text.specs.Wrote.{Wrote, PrefixLength};
 ghost use Rattle.check_text.specs.CheckText.{checkText, checkTextIn};
 
 // The longest text: that of a refusal.
@@ -11,7 +11,6 @@ pub const ROOM: usize = 38;
 fn write_text(matrix: &[u8], netlist: &[u8], text: &mut [u8]) -> usize
     requires { ⌜ longestRefusedLine ≤ length (now text) ⌝ }
     ensures { λ r. ⌜ Wrote (now (text .entry)) (now (text .exit)) r (checkText (now (matrix .entry)) (now (netlist .entry))) ⌝ }
-    ensures { λ r. ⌜ r ≤ longestRefusedLine ⌝ }
 {
     let answer = netlist_check::check(matrix, netlist);
     if answer.refusal != 0 {
@@ -23,7 +22,7 @@ fn write_text(matrix: &[u8], netlist: &[u8], text: &mut [u8]) -> usize
 // Writes the text at the start of the lent bytes and answers how long it is; nothing where they are too few.
 pub fn write_check(matrix: &[u8], netlist: &[u8], text: &mut [u8]) -> usize
     ensures { λ r. ⌜ Wrote (now (text .entry)) (now (text .exit)) r (checkTextIn (length (now (text .entry))) (now (matrix .entry)) (now (netlist .entry))) ⌝ }
-    ensures { λ r. ⌜ r ≤ longestRefusedLine ⌝ }
+    ensures { λ r. ⌜ PrefixLength r (now (text .exit)) ⌝ }
 {
     if text.len() < ROOM {
         return 0;

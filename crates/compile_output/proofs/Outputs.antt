@@ -43,9 +43,6 @@ module _ (bytes : List ℕ) (all : AreBytes bytes) (old after : List ℕ) (answe
     count : answer .written ≡ length (compiledBytes bytes)
     count = ap (λ (a : CompileAnswer). a .written) (room-accepted bytes all (length old) room answer answered is-zero .1)
 
-    pub within : answer .written ≤ enoughBytes
-    within = omega (arith, count, compiled-length bytes all taken)
-
     pub netlist-written : Wrote old after (answer .written) (compileOutput bytes)
     netlist-written =
         subst (λ (l : List ℕ). Wrote old after (answer .written) l) (accepted-output bytes taken) (record {

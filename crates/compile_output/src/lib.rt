@@ -3,13 +3,12 @@ use layout_records::places::ENOUGH_BYTES;
 ghost use Prim.Native.Nat.{_≤_};
 ghost use lib.ListN.{length};
 ghost use Rattle.layout_rules.specs.Places.{enoughBytes};
-ghost use Rattle.text.specs.Wrote.{Wrote};
+ghost use Rattle.text.specs.Wrote.{Wrote, PrefixLength};
 ghost use Rattle.compile_output.specs.CompileOutput.{compileOutput, compileOutputIn};
 
 fn write_enough(matrix: &[u8], output: &mut [u8]) -> usize
     requires { ⌜ enoughBytes ≤ length (now output) ⌝ }
     ensures { λ r. ⌜ Wrote (now (output .entry)) (now (output .exit)) r (compileOutput (now (matrix .entry))) ⌝ }
-    ensures { λ r. ⌜ r ≤ enoughBytes ⌝ }
 {
     let answer = compile::compile(matrix, output);
     if answer.refusal != 0 {
@@ -21,7 +20,7 @@ fn write_enough(matrix: &[u8], output: &mut [u8]) -> usize
 // Writes it at the start of the lent bytes and answers how long it is; nothing where they are too few for some netlist.
 pub fn write_compiled(matrix: &[u8], output: &mut [u8]) -> usize
     ensures { λ r. ⌜ Wrote (now (output .entry)) (now (output .exit)) r (compileOutputIn (length (now (output .entry))) (now (matrix .entry))) ⌝ }
-    ensures { λ r. ⌜ r ≤ enoughBytes ⌝ }
+    ensures { λ r. ⌜ PrefixLength r (now (output .exit)) ⌝ }
 {
     if output.len() < ENOUGH_BYTES {
         return 0;

@@ -8,7 +8,7 @@ ghost use Prim.Native.Nat.{_*_, _-_, _≤_};
 ghost use lib.IntN.{pos};
 ghost use lib.ListN.{length, replicate};
 ghost use Rattle.limits.specs.Limits.{maxRows};
-ghost use Rattle.text.specs.Wrote.{Wrote};
+ghost use Rattle.text.specs.Wrote.{Wrote, PrefixLength};
 ghost use Rattle.run_text.specs.RunText.{signedNumber, longestLine, longestRunText, valueLine, valueLines, rowsRead, runText, runTextIn};
 
 // The longest line: a sign, 19 digits and a line feed.
@@ -59,7 +59,6 @@ fn run_and_write(netlist: &[u8], samples: &[u8], outputs: &mut [i64], text: &mut
     requires { ⌜ now outputs ≡ replicate (rowsRead (now netlist)) (pos 0) ⌝ }
     requires { ⌜ (length (now outputs) ≤ maxRows) × (longestRunText ≤ length (now text)) ⌝ }
     ensures { λ r. ⌜ Wrote (now (text .entry)) (now (text .exit)) r (runText (now (netlist .entry)) (now (samples .entry))) ⌝ }
-    ensures { λ r. ⌜ r ≤ longestRunText ⌝ }
 {
     let answer = samples::run_on_bytes(netlist, samples, outputs);
     if answer.refusal != 0 {
@@ -72,7 +71,6 @@ fn run_and_write(netlist: &[u8], samples: &[u8], outputs: &mut [i64], text: &mut
 fn write_text(netlist: &[u8], samples: &[u8], text: &mut [u8]) -> usize
     requires { ⌜ longestRunText ≤ length (now text) ⌝ }
     ensures { λ r. ⌜ Wrote (now (text .entry)) (now (text .exit)) r (runText (now (netlist .entry)) (now (samples .entry))) ⌝ }
-    ensures { λ r. ⌜ r ≤ longestRunText ⌝ }
 {
     let m = netlist_read::read(netlist).m as usize;
     let mut outputs: [i64; MAX_ROWS] = [0; MAX_ROWS];
@@ -82,7 +80,7 @@ fn write_text(netlist: &[u8], samples: &[u8], text: &mut [u8]) -> usize
 // Writes the text at the start of the lent bytes and answers how long it is; nothing where they are too few.
 pub fn write_run(netlist: &[u8], samples: &[u8], text: &mut [u8]) -> usize
     ensures { λ r. ⌜ Wrote (now (text .entry)) (now (text .exit)) r (runTextIn (length (now (text .entry))) (now (netlist .entry)) (now (samples .entry))) ⌝ }
-    ensures { λ r. ⌜ r ≤ longestRunText ⌝ }
+    ensures { λ r. ⌜ PrefixLength r (now (text .exit)) ⌝ }
 {
     if text.len() < ROOM {
         return 0;

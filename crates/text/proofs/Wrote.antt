@@ -6,9 +6,9 @@ use mathlib.Core.List.{List, [], _++_, append-assoc, append-nil}
 use native.Mathlib.Omega.{arith}
 use borrow.Author.Tests.{lt-ltb, le-ltb}
 use lib.ListN.{length, take, drop, length-append, length-drop, drop-of-length-le}
-use lib.Seq.{take-at, drop-at, drop-drop, take-all, take-length}
+use lib.Seq.{length-take-le, take-at, drop-at, drop-drop, take-all, take-length}
 use borrow.Rule.Slice.PartMut.{putMid}
-use Rattle.text.specs.Wrote.{Wrote, textIn}
+use Rattle.text.specs.Wrote.{Wrote, PrefixLength, textIn}
 
 -- nothing is written yet
 pub wrote-nothing : (before : List ℕ) → Wrote before before 0 []
@@ -68,9 +68,18 @@ wrote-more {before} {text} {done} {part} {line} {place} {count} w v = record {
         ∙ drop-drop (length line) place before
         ∙ ap (λ (k : ℕ). drop k before) end
 
--- the lent bytes are too few, or enough
-pub text-short : (longest lent : ℕ) (text : List ℕ) → lent < longest → [] ≡ textIn longest lent text
-text-short longest lent text h = sym (rw (lt-ltb lent longest h, textIn))
+-- what is written can be lent
+pub wrote-prefix : {before after line : List ℕ} {count : ℕ} → Wrote before after count line → PrefixLength count after
+wrote-prefix {before} {after} {line} {count} w =
+    let h : count ≤ length after = omega (arith, w .counted, ap length (w .text), length-append line (drop (length line) before)) in
+    (h, sym (length-take-le count after h))
 
-pub text-fits : (longest lent : ℕ) (text : List ℕ) → longest ≤ lent → text ≡ textIn longest lent text
-text-fits longest lent text h = sym (rw (le-ltb lent longest h, textIn))
+-- a text that is written only where the longest one fits: nothing, or the text
+pub wrote-none : (longest : ℕ) (before text : List ℕ) → length before < longest → Wrote before before 0 (textIn longest (length before) text) × PrefixLength 0 before
+wrote-none longest before text h =
+    let w : Wrote before before 0 (textIn longest (length before) text) = wrote-as (sym (rw (lt-ltb (length before) longest h, textIn))) (wrote-nothing before) in
+    (w, wrote-prefix w)
+
+pub wrote-whole : (longest : ℕ) {before after text : List ℕ} {count : ℕ} → longest ≤ length before → Wrote before after count text
+    → Wrote before after count (textIn longest (length before) text) × PrefixLength count after
+wrote-whole longest {before} {after} {text} {count} h w = (wrote-as (sym (rw (le-ltb (length before) longest h, textIn))) w, wrote-prefix w)

@@ -1,11 +1,11 @@
 -- What a writer leaves in the text that it was lent.
 -- Assumes nothing.
-use Prim.Native.Nat.{ℕ}
+use Prim.Native.Nat.{ℕ, _≤_}
 use mathlib.Core.Path.{_≡_}
 use mathlib.Core.Bool.{true, false}
 use mathlib.Core.List.{List, [], _++_}
 use lib.Dec.{ltb}
-use lib.ListN.{length, drop}
+use lib.ListN.{length, take, drop}
 
 -- the line stands at the text's start and is counted; behind it the text is as it was
 pub record Wrote (before after : List ℕ) (count : ℕ) (line : List ℕ) : Type 0 where
@@ -15,3 +15,8 @@ pub record Wrote (before after : List ℕ) (count : ℕ) (line : List ℕ) : Typ
 -- nothing where fewer bytes are lent than the longest text needs
 abbrev pub textIn : ℕ → ℕ → List ℕ → List ℕ
 textIn longest lent text = elim (ltb lent longest) [ true ↦ [] | false ↦ text ]
+
+-- a text has a first part of so many bytes; the second fact follows from the first, and both are stated so that the proof of a part
+-- `&text[..count]` that is lent finds them
+abbrev pub PrefixLength : ℕ → List ℕ → Type 0
+PrefixLength count text = (count ≤ length text) × (count ≡ length (take count text))

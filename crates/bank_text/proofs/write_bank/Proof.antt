@@ -1,13 +1,12 @@
 -- `bank_text::write_bank` meets its contract. Assumes nothing.
-use native.Mathlib.Omega.{arith}
-use Rattle.text.proofs.Wrote.{wrote-nothing, wrote-as, text-short, text-fits}
+use Rattle.text.proofs.Wrote.{wrote-none, wrote-whole}
 use borrow.Author.Needs.{needs}
 use Rattle.bank_text.specs.BankText.{longestBankText}
 use Rattle.bank_text.proofs.write_bank.Statement.{statement}
 use Rattle.bank_text.proofs.write_bank.Tie as tie
 
 returns : tie.Need-returns
-returns c = (wrote-as (text-short longestBankText _ _ (c .if1 .taken)) (wrote-nothing _), omega arith)
+returns c = wrote-none longestBankText _ _ (c .if1 .taken)
 
 write-text-requires : tie.Need-write-text-requires
 write-text-requires c κs = search needs
@@ -16,7 +15,7 @@ same-length : tie.Need-same-length
 same-length c = search needs
 
 returns-2 : tie.Need-returns-2
-returns-2 c = let w = c .before .before .write-text .ensures in (wrote-as (text-fits longestBankText _ _ (c .before .before .before .before .if1 .left)) (w .0), w .1)
+returns-2 c = wrote-whole longestBankText (c .before .before .before .before .if1 .left) (c .before .before .write-text .ensures)
 
 pub write-bank-spec : {M : Type 1} → statement M
 write-bank-spec = tie.close (tie.spec returns write-text-requires same-length returns-2)

@@ -12,8 +12,8 @@ use Rattle.layout_rules.specs.Matrix.{rows}
 use Rattle.layout_rules.proofs.LittleEndian.{AreBytes}
 use Rattle.layout_rules.proofs.MatrixRefusal.{AcceptedMatrix}
 use Rattle.text.specs.Text.{refusedLine}
-use Rattle.listing_rules.specs.Records.{listingOf}
 use Rattle.text.proofs.Wrote.{wrote-as}
+use Rattle.listing_rules.specs.Records.{listingOf}
 use Rattle.bank_text.specs.BankText.{bankText}
 use Rattle.bank_text.proofs.Texts.{countsFrom, text-refused, text-accepted, limits, few, long}
 use Rattle.bank_text.proofs.write_text.Statement.{statement}
@@ -64,7 +64,7 @@ same-length c = search needs
 returns : tie.Need-returns
 returns c =
     let w = c .before .before .write-refused .ensures in
-    (wrote-as (refusal-text (c .before .before .before .before .before .before .before) (c .before .before .before .before .if1 .taken)) (w .0), omega (arith, w .1))
+    wrote-as (refusal-text (c .before .before .before .before .before .before .before) (c .before .before .before .before .if1 .taken)) (w .0)
 
 shared-slice-read-t13 : tie.Need-shared-slice-read-t13
 shared-slice-read-t13 c = omega (arith, within (c .before .before .before .before) (c .before .if1 .left) .enough)
@@ -97,7 +97,7 @@ returns-2 c =
     let k = c .before .before .before .before .before .before .before .before .before .before in
     let e = c .before .before .before .before .before .before .before .if1 .left in
     let w = c .before .before .write-listing .ensures in
-    (wrote-as (netlist-text k e) (w .0), omega (arith, w .1, within k e .limits .rows-most, operations k e))
+    wrote-as (netlist-text k e) (w .0)
 
 pub write-text-spec : {M : Type 1} → statement M
 write-text-spec =

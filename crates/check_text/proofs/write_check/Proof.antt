@@ -1,13 +1,12 @@
 -- `check_text::write_check` meets its contract. Assumes nothing.
-use native.Mathlib.Omega.{arith}
 use borrow.Author.Needs.{needs}
 use Rattle.text.specs.Text.{longestRefusedLine}
-use Rattle.text.proofs.Wrote.{wrote-nothing, wrote-as, text-short, text-fits}
+use Rattle.text.proofs.Wrote.{wrote-none, wrote-whole}
 use Rattle.check_text.proofs.write_check.Statement.{statement}
 use Rattle.check_text.proofs.write_check.Tie as tie
 
 returns : tie.Need-returns
-returns c = (wrote-as (text-short longestRefusedLine _ _ (c .if1 .taken)) (wrote-nothing _), omega arith)
+returns c = wrote-none longestRefusedLine _ _ (c .if1 .taken)
 
 write-text-requires : tie.Need-write-text-requires
 write-text-requires c κs = search needs
@@ -16,7 +15,7 @@ same-length : tie.Need-same-length
 same-length c = search needs
 
 returns-2 : tie.Need-returns-2
-returns-2 c = let w = c .before .before .write-text .ensures in (wrote-as (text-fits longestRefusedLine _ _ (c .before .before .before .before .if1 .left)) (w .0), w .1)
+returns-2 c = wrote-whole longestRefusedLine (c .before .before .before .before .if1 .left) (c .before .before .write-text .ensures)
 
 pub write-check-spec : {M : Type 1} → statement M
 write-check-spec = tie.close (tie.spec returns write-text-requires same-length returns-2)

@@ -1,6 +1,5 @@
 -- `check_text::write_text` meets its contract. Assumes nothing.
 use mathlib.Core.Path.{refl}
-use native.Mathlib.Omega.{arith}
 use borrow.Author.Needs.{needs}
 use Rattle.text.specs.Text.{ascii}
 use Rattle.text.proofs.Wrote.{wrote-as, wrote-copy}
@@ -21,7 +20,7 @@ returns : tie.Need-returns
 returns c =
     let k = c .before .before .before .before .before .before in
     let w = c .before .before .write-refused .ensures in
-    (wrote-as (text-refused _ _ (k .check .result) (k .check .ensures) (c .before .before .before .before .if1 .taken)) (w .0), w .1)
+    wrote-as (text-refused _ _ (k .check .result) (k .check .ensures) (c .before .before .before .before .if1 .taken)) (w .0)
 
 slice-aggregate-copy : tie.Need-slice-aggregate-copy
 slice-aggregate-copy c = refl
@@ -35,11 +34,9 @@ same-length-2 c = search needs
 returns-2 : tie.Need-returns-2
 returns-2 c =
     let k = c .before .before .before .before .before .before .before in
-    let w = c .before .before .copy .ensures in (
-      wrote-as (text-accepted _ _ (k .check .result) (k .check .ensures) (c .before .before .before .before .before .if1 .left))
-          (wrote-copy _ (ascii "accepted\n") _ _ (w .0) (w .1)),
-      omega (arith, w .0),
-    )
+    let w = c .before .before .copy .ensures in
+    wrote-as (text-accepted _ _ (k .check .result) (k .check .ensures) (c .before .before .before .before .before .if1 .left))
+    (wrote-copy _ (ascii "accepted\n") _ _ (w .0) (w .1))
 
 pub write-text-spec : {M : Type 1} → statement M
 write-text-spec =

@@ -11,7 +11,7 @@ use Rattle.text.specs.Text.{refusedLine}
 use Rattle.text.specs.Wrote.{Wrote}
 use Rattle.text.proofs.Wrote.{wrote-as}
 use Rattle.compile_output.specs.CompileOutput.{compileOutput}
-use Rattle.compile_output.proofs.Outputs.{line-refused, kept, within, netlist-written}
+use Rattle.compile_output.proofs.Outputs.{line-refused, kept, netlist-written}
 use Rattle.compile_output.proofs.write_enough.Statement.{statement}
 use Rattle.compile_output.proofs.write_enough.Tie as tie
 
@@ -43,11 +43,8 @@ module _ (c : tie.After-compile) where
     unchanged = kept bytes all old after (c .compile .result) room (c .compile .ensures .0) (c .compile .ensures .1) refused
 
   module _ (accepted : c .compile .result .refusal ≡ 0) where
-    netlist : Wrote old after (c .compile .result .written) (compileOutput bytes) × (c .compile .result .written ≤ enoughBytes)
-    netlist = (
-      netlist-written bytes all old after (c .compile .result) room (c .compile .ensures .0) (c .compile .ensures .1) accepted,
-      within bytes all old after (c .compile .result) room (c .compile .ensures .0) (c .compile .ensures .1) accepted,
-    )
+    netlist : Wrote old after (c .compile .result .written) (compileOutput bytes)
+    netlist = netlist-written bytes all old after (c .compile .result) room (c .compile .ensures .0) (c .compile .ensures .1) accepted
 
 compile-requires : tie.Need-compile-requires
 compile-requires c κs = search needs
@@ -62,11 +59,9 @@ returns : tie.Need-returns
 returns c =
     let k = c .before .before .before .before .before .before .before .before in
     let refused = c .before .before .before .before .if1 .taken in
-    let w = c .before .before .write-refused .ensures in (
-      subst (λ (l : List ℕ). Wrote l (c .before .before .write-refused .last .1 .1 .0) (c .before .before .write-refused .result) (compileOutput (bytes k)))
-          (unchanged k refused) (wrote-as (line k refused) (w .0)),
-      omega (arith, w .1),
-    )
+    let w = c .before .before .write-refused .ensures in
+    subst (λ (l : List ℕ). Wrote l (c .before .before .write-refused .last .1 .1 .0) (c .before .before .write-refused .result) (compileOutput (bytes k)))
+    (unchanged k refused) (wrote-as (line k refused) (w .0))
 
 same-length-2 : tie.Need-same-length-2
 same-length-2 c = search needs

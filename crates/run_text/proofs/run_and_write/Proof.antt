@@ -2,12 +2,11 @@
 use Prim.Native.Nat.{ℕ}
 use mathlib.Core.Path.{_≡_, ap, _∙_}
 use mathlib.Core.List.{List}
-use native.Mathlib.Omega.{arith}
 use lib.IntN.{ℤ, pos}
 use lib.ListN.{length, replicate, length-replicate}
 use Rattle.netlist_rules.specs.Run.{runAnswer, runOutputs}
-use Rattle.run_text.specs.Samples.{samplesOf}
 use Rattle.text.proofs.Wrote.{wrote-as}
+use Rattle.run_text.specs.Samples.{samplesOf}
 use Rattle.run_text.specs.RunText.{valueLines, rowsRead}
 use Rattle.run_text.proofs.Texts.{text-refused, text-accepted}
 use borrow.Author.Needs.{needs}
@@ -51,7 +50,7 @@ returns c =
     let w = c .before .before .write-refused .ensures in
     let t = c .before .before .before .before in
     let r = t .before .before .before in
-    (wrote-as (text-refused (netlist r) (samples r) (r .run-on-bytes .result) (answered r) (t .if1 .taken)) (w .0), omega (arith, w .1))
+    wrote-as (text-refused (netlist r) (samples r) (r .run-on-bytes .result) (answered r) (t .if1 .taken)) (w .0)
 
 write-outputs-requires : tie.Need-write-outputs-requires
 write-outputs-requires c κs = search needs
@@ -66,10 +65,8 @@ returns-2 : tie.Need-returns-2
 returns-2 c =
     let w = c .before .before .write-outputs .ensures in
     let e = c .before .before .before .before .before in
-    let r = e .before .before .before in (
-      wrote-as (ap valueLines (filled r) ∙ text-accepted (netlist r) (samples r) (r .run-on-bytes .result) (answered r) (e .if1 .left)) (w .0),
-      omega (arith, w .1),
-    )
+    let r = e .before .before .before in
+    wrote-as (ap valueLines (filled r) ∙ text-accepted (netlist r) (samples r) (r .run-on-bytes .result) (answered r) (e .if1 .left)) (w .0)
 
 pub run-and-write-spec : {M : Type 1} → statement M
 run-and-write-spec =
