@@ -6,7 +6,7 @@ ghost use Rattle.layout_rules.specs.Places.{enoughBytes};
 ghost use Rattle.text.specs.Wrote.{Wrote, PrefixLength};
 ghost use Rattle.compile_output.specs.CompileOutput.{compileOutput, compileOutputIn};
 
-fn write_enough(matrix: &[u8], output: &mut [u8]) -> usize
+fn write_output(matrix: &[u8], output: &mut [u8]) -> usize
     requires { ⌜ enoughBytes ≤ length (now output) ⌝ }
     ensures { λ r. ⌜ Wrote (now (output .entry)) (now (output .exit)) r (compileOutput (now (matrix .entry))) ⌝ }
 {
@@ -25,5 +25,5 @@ pub fn write_compiled(matrix: &[u8], output: &mut [u8]) -> usize
     if output.len() < ENOUGH_BYTES {
         return 0;
     }
-    write_enough(matrix, output)
+    write_output(matrix, output)
 }

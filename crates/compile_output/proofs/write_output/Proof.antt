@@ -1,4 +1,4 @@
--- `compile_output::write_enough` meets its contract. Assumes nothing.
+-- `compile_output::write_output` meets its contract. Assumes nothing.
 use Prim.Native.Nat.{ℕ, _≤_}
 use mathlib.Core.Path.{_≡_, subst}
 use mathlib.Core.List.{List}
@@ -12,8 +12,8 @@ use Rattle.text.specs.Wrote.{Wrote}
 use Rattle.text.proofs.Wrote.{wrote-as}
 use Rattle.compile_output.specs.CompileOutput.{compileOutput}
 use Rattle.compile_output.proofs.Outputs.{line-refused, kept, netlist-written}
-use Rattle.compile_output.proofs.write_enough.Statement.{statement}
-use Rattle.compile_output.proofs.write_enough.Tie as tie
+use Rattle.compile_output.proofs.write_output.Statement.{statement}
+use Rattle.compile_output.proofs.write_output.Tie as tie
 
 -- what is known once compile has answered
 module _ (c : tie.After-compile) where
@@ -69,5 +69,5 @@ same-length-2 c = search needs
 returns-2 : tie.Need-returns-2
 returns-2 c = netlist (c .before .before .before .before) (c .if1 .left)
 
-pub write-enough-spec : {M : Type 1} → statement M
-write-enough-spec = tie.close (tie.spec compile-requires write-refused-requires same-length returns same-length-2 returns-2)
+pub write-output-spec : {M : Type 1} → statement M
+write-output-spec = tie.close (tie.spec compile-requires write-refused-requires same-length returns same-length-2 returns-2)
