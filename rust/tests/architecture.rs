@@ -8,7 +8,7 @@ use std::path::{Path, PathBuf};
 const ARCHITECTURE: &str = include_str!("../../docs/ARCHITECTURE.md");
 const CRATES: &str = include_str!("../../crates.txt");
 
-/// The definitions that contracts of public functions cite, by the list in which they stand first.
+/// The definitions that contracts of public functions, and the theorems of docs/CLAIM.md, cite, by the list in which they stand first.
 const PROMISES: [(&str, &[&str]); 4] = [
     (
         "calls",
@@ -20,7 +20,14 @@ const PROMISES: [(&str, &[&str]); 4] = [
             "netlist_rules/Run",
         ],
     ),
-    ("claims", &["bank_rules/Claim", "netlist_rules/Exact"]),
+    (
+        "claims",
+        &[
+            "bank_rules/Claim",
+            "netlist_rules/Exact",
+            "compile_rules/Compiled",
+        ],
+    ),
     ("tests", &["compile_rules/Tests", "netlist_rules/Tests"]),
     (
         "programs",

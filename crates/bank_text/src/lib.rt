@@ -1,4 +1,4 @@
-// Document 01, "Marked banks": the text of list-bank for a matrix record. Rests on `limits`, `layout_records`, `compile` and
+// Document 01, "Programs": the text of list-bank for a matrix record. Rests on `limits`, `layout_records`, `compile` and
 // `listing`.
 use layout_records::places::ENOUGH_BYTES;
 use limits::MAX_OPERATIONS;

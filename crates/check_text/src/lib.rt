@@ -1,4 +1,5 @@
-// The text of check-bank for a matrix record and a netlist: `accepted`, or the line of the refusal. Rests on `netlist_check` and `text`.
+// Document 01, "Programs": the text of check-bank for a matrix record and a netlist, `accepted` or the line of the refusal. Rests on
+// `netlist_check` and `text`.
 ghost use Prim.Native.Nat.{_≤_};
 ghost use lib.ListN.{length};
 ghost use Rattle.text.specs.Text.{longestRefusedLine};

@@ -1,4 +1,5 @@
-// What compile-bank writes for a matrix record: the netlist's bytes, or the line of the refusal. Rests on `compile` and `text`.
+// Document 01, "Programs": what compile-bank writes for a matrix record, the netlist's bytes or the line of the refusal. Rests on
+// `compile` and `text`.
 use layout_records::places::ENOUGH_BYTES;
 ghost use Prim.Native.Nat.{_≤_};
 ghost use lib.ListN.{length};

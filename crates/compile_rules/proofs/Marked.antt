@@ -29,6 +29,7 @@ marked-banks = record {
   depth-four = refl;
   widths = marked-widths;
   compiled-sum = refl;
+  operations-negated = refl;
   compiled-negated = refl;
   compiled-eight = refl;
   output-eight = refl;

@@ -1,4 +1,4 @@
--- Document 01, "widths .. compiled ones at most 35": a compiled width is at most the number of positions, the sample width and the bits
+-- Document 01, "compiled ones at most 35": a compiled width is at most the number of positions, the sample width and the bits
 -- that the number of columns needs, added up, after any sequence of steps.
 -- Assumes nothing.
 use Prim.Native.Nat.{ℕ, suc, _+_, _*_, _-_, _^_, _≤_, _<_}

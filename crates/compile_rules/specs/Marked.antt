@@ -56,6 +56,7 @@ pub record MarkedBanks : Type 0 where
   -- width of x0 + x1 is 17, of −x0 17, of eight times −32,768 summed 35; and these are what such matrices are compiled to
   pub widths : MarkedWidths
   pub compiled-sum : netlistFor 1 2 ((pos 1 ∷ pos 1 ∷ []) ∷ []) .operations ≡ sumOfTwo
+  pub operations-negated : netlistFor 1 1 ((negsuc 0 ∷ []) ∷ []) .operations ≡ []
   pub compiled-negated : netlistFor 1 1 ((negsuc 0 ∷ []) ∷ []) .outputs ≡ negatedSample ∷ []
   pub compiled-eight : netlistFor 1 8 (replicate 8 (negsuc 32767) ∷ []) .operations ≡ chainOfEight
   pub output-eight : netlistFor 1 8 (replicate 8 (negsuc 32767) ∷ []) .outputs ≡ negatedChain ∷ []

@@ -123,7 +123,7 @@ eliminate order (suc fuel) symbol made rows =
       | false ↦ stepThen best (eliminate order fuel (suc symbol) (made ++ (best .divisor ∷ [])) (rowsAfter symbol (best .divisor) rows))
     ]
 
--- a step takes at least two terms away, so there are fewer steps than the plain count
+-- a step takes at least two terms away, so there are at most half as many steps as the plain count
 abbrev pub enoughSteps : List Row → ℕ
 enoughSteps rows = plainCount rows
 

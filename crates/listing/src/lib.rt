@@ -1,4 +1,4 @@
-// Document 01, "Marked banks": the text that the program list-bank prints for a netlist's bytes, as `listing_rules` has it. Rests on
+// Document 01, "Programs": the text that the program list-bank prints for a netlist's bytes, as `listing_rules` has it. Rests on
 // `listing_lines` and `layout_records`.
 use layout_records::places::HEAD_LENGTH;
 use layout_records::places::operation_place;

@@ -1,4 +1,4 @@
-// Document 01, "Marked banks": the lines that the program list-bank prints, as `listing_rules` has them. Each writer is lent the part of
+// Document 01, "Programs": the lines that the program list-bank prints, as `listing_rules` has them. Each writer is lent the part of
 // the text that starts at the current place, as those of `text` are.
 use layout_rules::Operation;
 use layout_rules::Output;

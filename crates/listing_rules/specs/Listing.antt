@@ -1,4 +1,4 @@
--- Document 01, "Marked banks": the text that the program list-bank prints, as bytes. Every line ends in a line feed.
+-- Document 01, "Programs": the text that the program list-bank prints, as bytes. Every line ends in a line feed.
 -- Assumes nothing.
 use Prim.Native.Nat.{ℕ, suc}
 use mathlib.Core.Bool.{cond}

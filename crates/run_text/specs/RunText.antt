@@ -1,4 +1,5 @@
--- What the program run-bank prints for a netlist and a vector of samples, both given as bytes. Every line ends in a line feed.
+-- Document 01, "Programs": what the program run-bank prints for a netlist and a vector of samples, both given as bytes. Every line ends in
+-- a line feed.
 -- Assumes nothing.
 use Prim.Native.Nat.{ℕ, zero, suc, _*_}
 use mathlib.Core.List.{List, _++_, flatMap}

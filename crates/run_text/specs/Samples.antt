@@ -19,7 +19,7 @@ sampleAt bytes index = signedWord (word bytes (2 * index))
 abbrev pub firstSamples : List ℕ → ℕ → List ℤ
 firstSamples bytes k = firstRecords (sampleAt bytes) k
 
--- how many there are; an odd number of bytes is no vector and counts as one sample more than any netlist takes: "15, samples are not n"
+-- how many there are; an odd number of bytes is no vector and counts as one sample more than any netlist takes: 15, "samples are not n"
 unfoldable pub sampleCount : List ℕ → ℕ
 sampleCount bytes = cond (eqb (length bytes % 2) 0) (length bytes / 2) (suc maxColumns)
 

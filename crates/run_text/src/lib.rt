@@ -1,5 +1,5 @@
-// The text of run-bank for a netlist and the bytes of samples: one output a line, in decimal. Rests on `limits`, `netlist_run` and `text`,
-// and on `board_width` for a number's positive and negative part.
+// Document 01, "Programs": the text of run-bank for a netlist and the bytes of samples, one output a line, in decimal. Rests on `limits`,
+// `netlist_run` and `text`, and on `board_width` for a number's positive and negative part.
 mod samples; // samples.rt: run, with the samples given as bytes
 
 use limits::MAX_ROWS;
