@@ -16,7 +16,7 @@ pub record Wrote (before after : List ℕ) (count : ℕ) (line : List ℕ) : Typ
 abbrev pub textIn : ℕ → ℕ → List ℕ → List ℕ
 textIn longest lent text = elim (ltb lent longest) [ true ↦ [] | false ↦ text ]
 
--- a text has a first part of so many bytes; the second fact follows from the first, and both are stated so that the proof of a part
--- `&text[..count]` that is lent finds them
+-- a text has a first part of so many bytes. It adds nothing to `Wrote`, and is stated so that the proof of a part `&text[..count]` that is
+-- lent finds it
 abbrev pub PrefixLength : ℕ → List ℕ → Type 0
 PrefixLength count text = (count ≤ length text) × (count ≡ length (take count text))
