@@ -11,14 +11,16 @@ ghost use mathlib.Core.Path.{_≡_};
 ghost use Prim.Native.Nat.{_≤_};
 ghost use lib.ListN.{length};
 
-const LONGEST_RECORD: usize = 65536;
+// One byte more than any record has.
+const TOO_LONG: usize = 65536;
 
-const LONGEST_NETLIST: usize = 131072;
+// As much of a netlist as any answer needs.
+const NETLIST_ROOM: usize = 131072;
 
-fn no_netlist() -> [u8; LONGEST_NETLIST]
+fn no_netlist() -> [u8; NETLIST_ROOM]
     ensures { λ r. ⌜ 131072 ≡ length r ⌝ }
 {
-    [0; LONGEST_NETLIST]
+    [0; NETLIST_ROOM]
 }
 
 fn check_matrix(matrix: &[u8]) {
@@ -40,7 +42,7 @@ fn record_length(length: &[u8; 4]) -> usize
     ensures { λ r. ⌜ r ≤ 65536 ⌝ }
 {
     if word_at(length, 2) > 0 {
-        return LONGEST_RECORD;
+        return TOO_LONG;
     }
     word_at(length, 0) as usize
 }

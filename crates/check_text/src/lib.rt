@@ -7,7 +7,7 @@ ghost use Rattle.text.specs.Wrote.{Wrote, PrefixLength};
 ghost use Rattle.check_text.specs.CheckText.{checkText, checkTextIn};
 
 // The longest text: that of a refusal.
-pub const ROOM: usize = 38;
+pub const ROOM: usize = text::LONGEST_REFUSED_LINE;
 
 fn write_text(matrix: &[u8], netlist: &[u8], text: &mut [u8]) -> usize
     requires { ⌜ longestRefusedLine ≤ length (now text) ⌝ }

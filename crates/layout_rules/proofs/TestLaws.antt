@@ -127,8 +127,8 @@ one-test ts false P number place later h is d = inr (h, inl (λ p. true≢false 
 -- a test of the fault
 pub one-fault : (ts : List Test) (t : Bool) (P : Type 0) (number place later : ℕ) → 0 < number → (t ≡ false) ↔ P
     → RefusedBy ts later place → RefusedBy (tested number place P ∷ ts) (cond t number later) place
-one-fault ts false P number place later h is d = ⊎-elim (λ a. inl (a .0, (is .0 refl, a .1))) (λ f. inr (f .0, inr (is .0 refl, f .1))) d
-one-fault ts true P number place later h is d = inr (h, inl (λ p. true≢false (is .1 p), refl, refl))
+one-fault ts false P number place later h is d = one-test ts true P number place later h (λ e. is .0 refl, λ p. refl) d
+one-fault ts true P number place later h is d = one-test ts false P number place later h (λ e. is .0 (sym e), λ p. sym (is .1 p)) d
 
 pub no-test : (place : ℕ) → RefusedBy [] 0 place
 no-test place = inl (refl, tt)
@@ -166,10 +166,8 @@ behind-test us false P number place later passed declined h is d =
 pub behind-fault : {X : Type 0} (us : List Test) (t : Bool) (P : Type 0) (number place : ℕ) (later passed : X) (declined : ℕ → ℕ → X)
     → 0 < number → (t ≡ false) ↔ P → (P → Decided us later passed declined)
     → Decided (tested number place P ∷ us) (elim t [ true ↦ declined number place | false ↦ later ]) passed declined
-behind-fault us false P number place later passed declined h is d =
-    let p = is .0 refl in
-    ⊎-elim (λ a. inl (a .0, (p, a .1))) (λ f. inr (f .0, f .1, f .2, f .3, inr (p, f .4))) (d p)
-behind-fault us true P number place later passed declined h is d = inr (number, place, h, refl, inl (λ p. true≢false (is .1 p), refl, refl))
+behind-fault us false P number place later passed declined h is d = behind-test us true P number place later passed declined h (λ e. is .0 refl, λ p. refl) d
+behind-fault us true P number place later passed declined h is d = behind-test us false P number place later passed declined h (λ e. is .0 (sym e), λ p. sym (is .1 p)) d
 
 -- ---- tests of records of one kind, one after another
 

@@ -19,8 +19,6 @@ use Rattle.board_rules.specs.Machine.{machine, operationValue, outputValue}
 use Rattle.board_rules.specs.Netlist.{HeadLimits, OperationLimits, OutputLimits, WidthRight, TotalsRight}
 use Rattle.netlist_rules.specs.Exact.{readLimits, SameSize, ComputesRow}
 
--- Below, a comment says in document 01's words when the test fails, and the statement what holds where it passes.
-
 -- ---- read: 7 to 12 record by record
 
 -- 7: under 4 bytes remain, or the length exceeds what remains

@@ -66,6 +66,9 @@ fn write_place(place: usize, text: &mut [u8]) -> usize
     end + bytes::copy(b"\n", &mut text[end..])
 }
 
+// Bytes that hold the line of a refusal: a number of 5 digits and a place of 20.
+pub const LONGEST_REFUSED_LINE: usize = 38;
+
 // The line of a refusal.
 pub fn write_refused(refusal: u8, place: usize, text: &mut [u8]) -> usize
     requires { ⌜ longestRefusedLine ≤ length (now text) ⌝ }
