@@ -14,7 +14,7 @@ use Rattle.layout_rules.specs.Records.{Netlist, headLength, headBytes, operatio
 use Rattle.layout_rules.specs.Places.{operationPlace, outputPlace}
 use Rattle.layout_rules.specs.Written.{written}
 use borrow.Rule.Slice.PartMut.{putMid}
-use Rattle.layout_rules.proofs.Written.{written-part, written-start, written-nothing, written-after, length-written}
+use Rattle.layout_rules.proofs.Written.{written-part, written-start, written-after, length-written, part-next, records-none}
 use Rattle.layout_rules.proofs.Lengths.{length-head, length-operation, length-output, length-totals, length-records}
 use Rattle.board_rules.specs.Machine.{entryForm, operationDepth, depths, depth}
 use Rattle.board_rules.specs.Width.{width}
@@ -42,35 +42,6 @@ appended-row table n o symbol l h r =
     (omega (arith, length-columns 0 n (operationCoefficient table o)))
     ∙ columns-at 0 n (operationCoefficient table o) j inside
     ∙ ap (operationCoefficient table o) first)
-
--- ---- records of one length, one after another
-
-module _ {A : Type 0} (bytes : A → List ℕ) (size : ℕ) (each : (x : A) → length (bytes x) ≡ size) where
-  -- one record more of those that are left, at a place
-  pub record-next : (buffer after : List ℕ) (place next : ℕ) (x : A) (xs : List A) → next ≡ place + size → place + size * suc (length xs) ≤ length buffer
-      → after ≡ written buffer place (bytes x) → written after next (flatMap bytes xs) ≡ written buffer place (flatMap bytes (x ∷ xs))
-  unfolding flatMap
-  record-next buffer after place next x xs e h f =
-      ap (λ (l : List ℕ). written l next (flatMap bytes xs)) f
-      ∙ written-after buffer place (bytes x) (flatMap bytes xs) next (omega (arith, each x)) (omega (arith, length-records bytes size each xs))
-
-  pub record-length : (buffer after : List ℕ) (place : ℕ) (x : A) → place + size ≤ length buffer → after ≡ written buffer place (bytes x) → length after ≡ length buffer
-  record-length buffer after place x h f = ap length f ∙ length-written buffer place (bytes x) (omega (arith, each x))
-
-  -- the same, as the caller of a writer holds the buffer
-  pub part-next : (buffer last : List ℕ) (place next : ℕ) (x : A) (xs : List A) → next ≡ place + size → place + size * suc (length xs) ≤ length buffer
-      → last ≡ bytes x ++ drop size (take (length buffer - place) (drop place buffer))
-      → (length (putMid place (length buffer - place) buffer last) ≡ length buffer)
-      × (written (putMid place (length buffer - place) buffer last) next (flatMap bytes xs) ≡ written buffer place (flatMap bytes (x ∷ xs)))
-  part-next buffer last place next x xs e h f =
-      let after : List ℕ = putMid place (length buffer - place) buffer last in
-      let room : place + size ≤ length buffer = omega arith in
-      let is : after ≡ written buffer place (bytes x) = written-part buffer place (bytes x) last size (each x) room f in
-      (record-length buffer after place x room is, record-next buffer after place next x xs e h is)
-
-  pub records-none : (buffer : List ℕ) (place : ℕ) (xs : List A) → xs ≡ [] → buffer ≡ written buffer place (flatMap bytes xs)
-  unfolding flatMap
-  records-none buffer place xs e = sym (ap (λ (l : List A). written buffer place (flatMap bytes l)) e ∙ written-nothing buffer place)
 
 -- ---- operations with their widths
 

@@ -1,12 +1,17 @@
 // Document 01, "Matrix record" and "Why a record was declined": the matrix record, as `layout_rules` has it.
 use layout_records::little_endian::word_at;
 ghost use mathlib.Core.Path.{_≡_};
-ghost use Prim.Native.Nat.{_+_, _^_, _<_};
-ghost use lib.ListN.{length};
+ghost use mathlib.Core.List.{_++_};
+ghost use Prim.Native.Nat.{_+_, _^_, _≤_, _<_};
+ghost use lib.ListN.{length, drop};
+ghost use Rattle.limits.specs.Size.{SizeLimits};
 ghost use Rattle.layout_rules.specs.Matrix.{matrixRefusal, coefficientAt, coefficientPlace, signedWord};
+ghost use Rattle.layout_matrix.specs.Head.{matrixHead};
+
+pub const MATRIX_KIND: u16 = 1;
 
 // The coefficients stand behind n, 2 bytes each.
-fn coefficient_place(index: usize) -> usize
+pub fn coefficient_place(index: usize) -> usize
     requires { ⌜ coefficientPlace index < 2 ^ 64 ⌝ }
     ensures { λ r. ⌜ r ≡ coefficientPlace index ⌝ }
 {
@@ -23,7 +28,7 @@ pub fn matrix_refusal(bytes: &[u8]) -> u8
     if word_at(bytes, 0) as usize != bytes.len() {
         return 2;
     }
-    if word_at(bytes, 2) != 1 {
+    if word_at(bytes, 2) != MATRIX_KIND {
         return 3;
     }
     let m = bytes[4];
@@ -54,4 +59,15 @@ pub fn coefficient(bytes: &[u8], index: usize) -> i16
     ensures { λ r. ⌜ r ≡ coefficientAt (now (bytes .entry)) index ⌝ }
 {
     signed_word(word_at(bytes, coefficient_place(index)))
+}
+
+// What stands before the coefficients: length, kind, m and n. What stands behind stays as it was.
+pub fn write_matrix_head(m: u8, n: u8, buffer: &mut [u8])
+    requires { ⌜ SizeLimits m n ⌝ }
+    requires { ⌜ coefficientPlace 0 ≤ length (now buffer) ⌝ }
+    ensures { λ _. ⌜ now (buffer .exit) ≡ matrixHead m n ++ drop (coefficientPlace 0) (now (buffer .entry)) ⌝ }
+{
+    let size = coefficient_place((m as usize) * (n as usize));
+    let head = [size as u8, 0, MATRIX_KIND as u8, 0, m, n];
+    bytes::copy(&head, buffer);
 }

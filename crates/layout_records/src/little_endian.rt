@@ -2,7 +2,8 @@
 ghost use mathlib.Core.Path.{_≡_};
 ghost use Prim.Native.Nat.{_+_, _*_, _<_};
 ghost use lib.ListN.{length};
-ghost use Rattle.layout_rules.specs.Bytes.{word};
+ghost use Rattle.layout_rules.specs.Bytes.{littleEndian, word};
+ghost use Rattle.layout_rules.specs.Written.{written};
 
 // The number whose two bytes stand at a place.
 pub fn word_at(bytes: &[u8], place: usize) -> u16
@@ -12,4 +13,13 @@ pub fn word_at(bytes: &[u8], place: usize) -> u16
     let low = bytes[place] as u16;
     let high = bytes[place + 1] as u16;
     low + 256 * high
+}
+
+// The two bytes of a number, written at a place; what stands before and behind them stays as it was.
+pub fn write_word(buffer: &mut [u8], place: usize, number: u16)
+    requires { ⌜ place + 1 < length (now buffer) ⌝ }
+    ensures { λ _. ⌜ now (buffer .exit) ≡ written (now (buffer .entry)) place (littleEndian number) ⌝ }
+{
+    buffer[place] = (number % 256) as u8;
+    buffer[place + 1] = (number / 256) as u8;
 }

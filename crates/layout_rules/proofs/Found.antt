@@ -1,6 +1,6 @@
 -- The step over bytes that hold a record at its place finds it, and where the step accepts, the bytes are those of a record.
 -- Assumes nothing.
-use Prim.Native.Nat.{ℕ, suc, _+_, _*_, _-_, _/_, _%_, _<_}
+use Prim.Native.Nat.{ℕ, suc, _+_, _-_, _/_, _%_, _<_}
 use mathlib.Core.Path.{_≡_, refl, sym, ap, ap₂, _∙_, subst}
 use mathlib.Core.Bool.{Bool, true, false, cond}
 use mathlib.Core.List.{List, [], _∷_, _++_}
@@ -8,9 +8,9 @@ use native.Mathlib.Omega.{arith}
 use native.Mathlib.Nat.{add-zero}
 use lib.Dec.{eqb}
 use lib.ListN.{length, getD, take, drop, length-append, length-drop, take-append-drop}
-use lib.Seq.{getD-drop, drop-drop, drop-cons, drop-at, take-at, length-take-le}
+use lib.Seq.{drop-drop, drop-cons, drop-at, take-at, length-take-le}
 use borrow.Author.Tests.{eqb-true}
-use Rattle.layout_rules.proofs.LittleEndian.{AreBytes, word-of, bytes-take, bytes-drop}
+use Rattle.layout_rules.proofs.LittleEndian.{AreBytes, word-of, word-drop, bytes-take, bytes-drop}
 use Rattle.layout_rules.proofs.Accepted.{AcceptedStep, not-refused, accepted-step, numbers-accepted, payload-accepted}
 use Rattle.layout_rules.specs.Bytes.{word, recordBytes}
 use Rattle.layout_rules.specs.Step.{remaining, stepRefusal, stepNumbers, payloadAt}
@@ -19,9 +19,6 @@ use Rattle.layout_rules.specs.declared.StepNumbers.{StepNumbers}
 -- an accepted step's numbers
 abbrev pub accepted : ℕ → ℕ → StepNumbers
 accepted kind next = record { refusal = 0; place = 0; kind = kind; next = next }
-
-word-drop : (b : List ℕ) (place i : ℕ) → word (drop place b) i ≡ word b (place + i)
-word-drop b place i = ap₂ (λ (x y : ℕ). x + 256 * y) (getD-drop place b i 0) (getD-drop place b (i + 1) 0 ∙ ap (λ (k : ℕ). getD b k 0) (omega arith))
 
 -- ---- a record that stands at a place is found
 

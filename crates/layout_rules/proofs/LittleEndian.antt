@@ -1,7 +1,7 @@
 -- Laws of little-endian numbers and of lists of bytes.
 -- Assumes nothing.
 use Prim.Native.Nat.{ℕ, zero, suc, _+_, _*_, _/_, _%_, _<_}
-use mathlib.Core.Path.{_≡_, sym, subst}
+use mathlib.Core.Path.{_≡_, sym, ap, ap₂, subst, _∙_}
 use mathlib.Core.List.{List, [], _∷_, _++_}
 use native.Mathlib.Omega.{arith}
 use lib.ListN.{getD, take, drop}
@@ -19,6 +19,10 @@ word-below bytes all place = omega (arith, all place, all (place + 1))
 -- a number's two bytes make the number
 pub word-of : (x : ℕ) (rest : List ℕ) → word (littleEndian x ++ rest) 0 ≡ x
 word-of x rest = omega arith
+
+-- a number behind so many bytes
+pub word-drop : (b : List ℕ) (place i : ℕ) → word (drop place b) i ≡ word b (place + i)
+word-drop b place i = ap₂ (λ (x y : ℕ). x + 256 * y) (getD-drop place b i 0) (getD-drop place b (i + 1) 0 ∙ ap (λ (k : ℕ). getD b k 0) (omega arith))
 
 -- two bytes are those of their number
 pub low-byte : (low high : ℕ) → low < 256 → (low + 256 * high) % 256 ≡ low

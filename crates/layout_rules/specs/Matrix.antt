@@ -1,13 +1,22 @@
--- Document 01, "Matrix record" and "Why a record was declined": refusals 1 to 5, and the matrix of a record.
+-- Document 01, "Matrix record" and "Why a record was declined": a matrix record's bytes, refusals 1 to 5, and the matrix of a record.
 -- Assumes nothing.
 use Prim.Native.Nat.{ℕ, zero, suc, _+_, _*_}
 use mathlib.Core.Bool.{cond, not}
-use mathlib.Core.List.{List, [], _∷_}
+use mathlib.Core.List.{List, [], _∷_, flatMap}
 use lib.Dec.{ltb, eqb}
 use lib.IntN.{ℤ, pos, _-ℤ_}
 use lib.ListN.{length, getD}
 use Rattle.limits.specs.Size.{sizeOutside}
-use Rattle.layout_rules.specs.Bytes.{word}
+use Rattle.layout_rules.specs.Bytes.{littleEndian, word, recordBytes}
+
+-- "Kind 1, matrix"
+abbrev pub matrixKind : ℕ
+matrixKind = 1
+
+-- "m (1 byte), n (1 byte), each 1 to 8, then m times n coefficients row by row, 2 bytes each, little-endian two's complement": the record of
+-- m, n and the numbers that the coefficients' bytes give
+abbrev pub matrixBytes : ℕ → ℕ → List ℕ → List ℕ
+matrixBytes m n words = recordBytes matrixKind (m ∷ n ∷ flatMap littleEndian words)
 
 -- m and n, 1 byte each, after length and kind
 abbrev pub rows : List ℕ → ℕ
@@ -31,7 +40,7 @@ matrixRefusal bytes =
     1
     (cond (not (eqb (word bytes 0) (length bytes)))
     2
-    (cond (not (eqb (word bytes 2) 1))
+    (cond (not (eqb (word bytes 2) matrixKind))
     3
     (cond (sizeOutside (rows bytes) (columns bytes))
     4

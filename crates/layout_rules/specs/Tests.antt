@@ -9,7 +9,7 @@ use mathlib.Core.List.{List, [], _∷_, _++_}
 use lib.ListN.{length}
 use Rattle.limits.specs.Size.{SizeLimits}
 use Rattle.layout_rules.specs.Bytes.{word}
-use Rattle.layout_rules.specs.Matrix.{rows, columns, matrixLength}
+use Rattle.layout_rules.specs.Matrix.{matrixKind, rows, columns, matrixLength}
 
 -- a test's number and place, and what holds where it passes
 pub record Test : Type 1 where
@@ -41,7 +41,7 @@ abbrev pub matrixTests : List ℕ → List Test
 matrixTests bytes =
     tested 1 0 (6 ≤ length bytes)
     ∷ tested 2 0 (word bytes 0 ≡ length bytes)
-    ∷ tested 3 0 (word bytes 2 ≡ 1)
+    ∷ tested 3 0 (word bytes 2 ≡ matrixKind)
     ∷ tested 4 0 (SizeLimits (rows bytes) (columns bytes))
     ∷ tested 5 0 (length bytes ≡ matrixLength (rows bytes) (columns bytes))
     ∷ []

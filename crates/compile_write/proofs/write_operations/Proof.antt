@@ -14,12 +14,13 @@ use Rattle.layout_rules.specs.Records.{headLength, operationLength, operationBy
 use Rattle.layout_rules.specs.Places.{operationPlace}
 use Rattle.layout_rules.specs.Written.{written}
 use Rattle.layout_rules.proofs.Lengths.{length-operation}
+use Rattle.layout_rules.proofs.Written.{records-none}
 use Rattle.board_rules.specs.Table.{HoldsForms, SmallForms, SmallRange, operationRow, formAppended}
 use Rattle.compile_lists.specs.Lists.{operationsList, noOperation}
 use Rattle.compile_rules.specs.Compile.{withWidths}
 use Rattle.compile_rules.specs.Compiled.{compiledLimits}
 use Rattle.compile_write.specs.Tables.{Writable}
-use Rattle.compile_write.proofs.WriteLaws.{recordedFrom, recorded-end, small-forms, small-range, holds-next, operation-written, records-none}
+use Rattle.compile_write.proofs.WriteLaws.{recordedFrom, recorded-end, small-forms, small-range, holds-next, operation-written}
 use Rattle.compile_write.proofs.write_operations.Statement.{statement}
 use Rattle.compile_write.proofs.write_operations.Tie as tie
 

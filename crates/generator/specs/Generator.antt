@@ -1,0 +1,62 @@
+-- Document 01, "Generated banks" and "Why a record was declined": the matrix record of m, n and a seed, and generate's answer.
+-- Assumes nothing.
+use Prim.Native.Nat.{ℕ, zero, suc, _+_, _*_, _/_, _%_, _^_}
+use mathlib.Core.Bool.{true, false}
+use mathlib.Core.List.{List, [], _∷_, _++_}
+use lib.Bits.{bitXor}
+use lib.Dec.{ltb}
+use lib.ListN.{length, drop}
+use Rattle.limits.specs.Size.{sizeOutside}
+use Rattle.layout_rules.specs.Matrix.{matrixBytes}
+use Rattle.generator.specs.declared.GenerateAnswer.{GenerateAnswer}
+
+-- ---- the record
+
+-- hexadecimal 9E3779B9
+abbrev pub growth : ℕ
+growth = 2654435769
+
+-- "the state grows by hexadecimal 9E3779B9, wrapping at 32 bits"
+unfoldable pub grown : ℕ → ℕ
+grown state = (state + growth) % 2 ^ 32
+
+-- "the upper 16 bits of (state xor state shifted right by 15)"
+unfoldable pub upperHalf : ℕ → ℕ
+upperHalf state = bitXor state (state / 2 ^ 15) / 2 ^ 16
+
+-- "For each coefficient in the record's order the state grows", and then gives it: the numbers of so many coefficients' bytes, from a state on
+unfoldable pub generatedWords : ℕ → ℕ → List ℕ
+generatedWords state zero = []
+generatedWords state (suc k) = upperHalf (grown state) ∷ generatedWords (grown state) k
+
+-- "The state starts as the seed."
+unfoldable pub generatedRecord : ℕ → ℕ → ℕ → List ℕ
+generatedRecord m n seed = matrixBytes m n (generatedWords seed (m * n))
+
+-- ---- generate's answer
+
+abbrev pub generateRefused : ℕ → ℕ → GenerateAnswer
+generateRefused r place = record { refusal = r; place = place; written = 0 }
+
+abbrev pub generateAccepted : ℕ → ℕ → ℕ → GenerateAnswer
+generateAccepted m n seed = record { refusal = 0; place = 0; written = length (generatedRecord m n seed) }
+
+-- 4: m or n outside 1 to 8; then 6: the buffer, of so many bytes, is shorter than the record
+unfoldable pub generateAnswer : ℕ → ℕ → ℕ → ℕ → GenerateAnswer
+generateAnswer m n seed room =
+    elim (sizeOutside m n) [
+      | true ↦ generateRefused 4 0
+      | false ↦ elim (ltb room (length (generatedRecord m n seed))) [ true ↦ generateRefused 6 0 | false ↦ generateAccepted m n seed ]
+    ]
+
+-- the buffer afterwards: the record followed by the old bytes, or the old bytes where generate refuses
+unfoldable pub generateBuffer : ℕ → ℕ → ℕ → List ℕ → List ℕ
+generateBuffer m n seed buffer =
+    elim (sizeOutside m n) [
+      | true ↦ buffer
+      | false ↦
+          elim (ltb (length buffer) (length (generatedRecord m n seed))) [
+            | true ↦ buffer
+            | false ↦ generatedRecord m n seed ++ drop (length (generatedRecord m n seed)) buffer
+          ]
+    ]
