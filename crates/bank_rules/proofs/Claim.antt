@@ -33,9 +33,11 @@ use Rattle.compile_rules.proofs.Compiled.{compiled-times, compiled-is, compiled
 use Rattle.netlist_rules.specs.declared.ReadAnswer.{ReadAnswer}
 use Rattle.netlist_rules.specs.declared.RunAnswer.{RunAnswer}
 use Rattle.netlist_rules.specs.Read.{readAccepted, readAnswer}
+use Rattle.netlist_rules.specs.Check.{checked, checkAnswer}
 use Rattle.netlist_rules.specs.Run.{ran, runAnswer, runOutputs, netlistOutputs}
 use Rattle.netlist_rules.specs.Exact.{readLimits, IsNetlistBytes}
 use Rattle.netlist_rules.proofs.ReadAccepts.{reading-of, read-answer}
+use Rattle.netlist_rules.proofs.CheckAccepts.{netlist-checked}
 use Rattle.netlist_rules.proofs.RunLaws.{run-fills}
 use Rattle.bank_rules.specs.declared.Answers.{Answers}
 use Rattle.bank_rules.specs.Claim.{MatrixWithinLimits, Given, bytesWritten, Overlap, Claim, answersOf, outputsAfter, Demand}
@@ -98,6 +100,17 @@ module _ (matrixBytes : List ℕ) (w : MatrixWithinLimits matrixBytes) where
   -- "6,136 bytes always suffice": so much room is long enough for any matrix's netlist
   pub always-long-enough : (buffer : List ℕ) → enoughBytes ≤ length buffer → length (compiledBytes matrixBytes) ≤ length buffer
   always-long-enough buffer room = omega (arith, compiled-length matrixBytes (w .are-bytes) refusal)
+
+  -- the checker passes what compile writes
+  pub compiled-checked : checkAnswer matrixBytes (compiledBytes matrixBytes) ≡ checked 0 0
+  unfolding netlistOf
+  compiled-checked =
+      netlist-checked matrixBytes (compiledBytes matrixBytes) (compiledNetlist matrixBytes) record {
+        within-limits = refusal;
+        netlist = netlist-there;
+        size = record { same-rows = refl; same-columns = refl };
+        computes = λ xs vector. compiled-times matrixBytes (w .are-bytes) refusal xs (vector .count);
+      }
 
   -- document 01's elimination of the matrix
   steps : let e = eliminationOf matrixBytes in Steps (columns matrixBytes) (matrixRows positions (matrix matrixBytes)) (e .divisors) (e .replacements) (e .remainingRows)

@@ -12,7 +12,7 @@ use Rattle.generator.specs.Generator.{growth, grown, upperHalf, generate
 -- ---- what a state gives
 
 -- shifted right by 15, a state reaches the upper half by its highest bit alone
-upper-half-is : (state : ℕ) → upperHalf state ≡ bitXor (state / 2 ^ 16) (state / 2 ^ 31)
+pub upper-half-is : (state : ℕ) → upperHalf state ≡ bitXor (state / 2 ^ 16) (state / 2 ^ 31)
 unfolding upperHalf
 upper-half-is state = xor-shr state (state / 2 ^ 15) 16 ∙ ap (bitXor (state / 2 ^ 16)) (shr-shr state 15 16)
 

@@ -64,29 +64,12 @@ read-all-pass nb net is = reading-accepted nb .0 (reading-of nb net is ∙ ap ac
 
 -- ---- check accepts
 
-module _ (mb nb : List ℕ) (all : AreBytes nb) where
+module _ (mb nb : List ℕ) where
   abbrev tests : List Test
   tests = firstTests (rowTests (netlistIn nb) (matrix mb)) (headAt nb .m)
 
   abbrev last : List Test
   last = tested 13 0 (SameSize mb (headAt nb)) ∷ tests
-
-  accepts-there : AllPass (checkTests mb nb) → (net : Netlist) × IsNetlistOf mb nb net
-  unfolding checkTests
-  accepts-there a =
-      let x = all-split (matrixTests mb) (readTests nb ++ last) a in
-      let y = all-split (readTests nb) last (x .1) in
-      let is = all-pass-netlist nb all (y .0) in
-      let net = netlistIn nb in (
-        net,
-        record {
-          within-limits = within-passes mb .1 (x .0);
-          netlist = is;
-          size = y .1 .0;
-          computes = rows-computed net (matrix mb) (net .head .m) (is .netlist .one-per-row) (matrix-length mb ∙ y .1 .0 .same-rows)
-              (λ i h. all-first (rowTests net (matrix mb)) (net .head .m) (y .1 .1) i h .0);
-        },
-      )
 
   -- the netlist that check reads is the only one
   accepts-back : (net : Netlist) → IsNetlistOf mb nb net → AllPass (checkTests mb nb)
@@ -103,10 +86,31 @@ module _ (mb nb : List ℕ) (all : AreBytes nb) where
         )),
       ))
 
-  -- check accepts if and only if the matrix record is within the limits, the netlist is one, sizes agree, and for every vector of samples
-  -- the board machine's outputs are row times vector
-  pub check-accepts : (checkAnswer mb nb ≡ checked 0 0) ↔ ((net : Netlist) × IsNetlistOf mb nb net)
-  check-accepts = (λ e. accepts-there (check-passes mb nb .0 e), λ is. check-passes mb nb .1 (accepts-back (is .0) (is .1)))
+  pub netlist-checked : (net : Netlist) → IsNetlistOf mb nb net → checkAnswer mb nb ≡ checked 0 0
+  netlist-checked net is = check-passes mb nb .1 (accepts-back net is)
+
+  module _ (all : AreBytes nb) where
+    accepts-there : AllPass (checkTests mb nb) → (net : Netlist) × IsNetlistOf mb nb net
+    unfolding checkTests
+    accepts-there a =
+        let x = all-split (matrixTests mb) (readTests nb ++ last) a in
+        let y = all-split (readTests nb) last (x .1) in
+        let is = all-pass-netlist nb all (y .0) in
+        let net = netlistIn nb in (
+          net,
+          record {
+            within-limits = within-passes mb .1 (x .0);
+            netlist = is;
+            size = y .1 .0;
+            computes = rows-computed net (matrix mb) (net .head .m) (is .netlist .one-per-row) (matrix-length mb ∙ y .1 .0 .same-rows)
+                (λ i h. all-first (rowTests net (matrix mb)) (net .head .m) (y .1 .1) i h .0);
+          },
+        )
+
+    -- check accepts if and only if the matrix record is within the limits, the netlist is one, sizes agree, and for every vector of samples
+    -- the board machine's outputs are row times vector
+    pub check-accepts : (checkAnswer mb nb ≡ checked 0 0) ↔ ((net : Netlist) × IsNetlistOf mb nb net)
+    check-accepts = (λ e. accepts-there (check-passes mb nb .0 e), λ is. netlist-checked (is .0) (is .1))
 
 -- ---- the lowest row that differs
 
@@ -158,12 +162,12 @@ read-numbers b =
 module _ (mb nb : List ℕ) (all : AreBytes nb) (row : ℕ) where
   lowest-there : FirstFails (checkTests mb nb) 14 row → (net : Netlist) × LowestRow mb nb net row
   unfolding checkTests
-  lowest-there f = in-matrix (fails-split 14 row (matrixTests mb) (readTests nb ++ last mb nb all) f)
+  lowest-there f = in-matrix (fails-split 14 row (matrixTests mb) (readTests nb ++ last mb nb) f)
     where
       Result : Type 0
       Result = (net : Netlist) × LowestRow mb nb net row
 
-      in-sizes : AllPass (matrixTests mb) → AllPass (readTests nb) → FirstFails (last mb nb all) 14 row → Result
+      in-sizes : AllPass (matrixTests mb) → AllPass (readTests nb) → FirstFails (last mb nb) 14 row → Result
       in-sizes x y (inl d) = absurd (omega (arith, d .1))
       in-sizes x y (inr d) =
           let lowest = row-fails (netlistIn nb) (matrix mb) (headAt nb .m) 14 row (d .1) in (
@@ -178,20 +182,20 @@ module _ (mb nb : List ℕ) (all : AreBytes nb) (row : ℕ) where
             },
           )
 
-      in-netlist : AllPass (matrixTests mb) → FirstFails (readTests nb) 14 row ⊎ (AllPass (readTests nb) × FirstFails (last mb nb all) 14 row) → Result
+      in-netlist : AllPass (matrixTests mb) → FirstFails (readTests nb) 14 row ⊎ (AllPass (readTests nb) × FirstFails (last mb nb) 14 row) → Result
       in-netlist x (inl g) = absurd (omega (arith, number-below 13 14 row (readTests nb) (read-numbers nb) g))
       in-netlist x (inr g) = in-sizes x (g .0) (g .1)
 
-      in-matrix : FirstFails (matrixTests mb) 14 row ⊎ (AllPass (matrixTests mb) × FirstFails (readTests nb ++ last mb nb all) 14 row) → Result
+      in-matrix : FirstFails (matrixTests mb) 14 row ⊎ (AllPass (matrixTests mb) × FirstFails (readTests nb ++ last mb nb) 14 row) → Result
       in-matrix (inl g) = absurd (omega (arith, number-below 6 14 row (matrixTests mb) (omega arith) g))
-      in-matrix (inr g) = in-netlist (g .0) (fails-split 14 row (readTests nb) (last mb nb all) (g .1))
+      in-matrix (inr g) = in-netlist (g .0) (fails-split 14 row (readTests nb) (last mb nb) (g .1))
 
   lowest-back : (net : Netlist) → LowestRow mb nb net row → FirstFails (checkTests mb nb) 14 row
   unfolding checkTests
   lowest-back net given =
       let is : LowestRow mb nb (netlistIn nb) row = subst (λ x. LowestRow mb nb x row) (sym (netlist-is nb net (given .netlist))) given in
-      fails-after 14 row (matrixTests mb) (readTests nb ++ last mb nb all) (within-passes mb .0 (is .within-limits))
-      (fails-after 14 row (readTests nb) (last mb nb all) (read-all-pass nb (netlistIn nb) (is .netlist))
+      fails-after 14 row (matrixTests mb) (readTests nb ++ last mb nb) (within-passes mb .0 (is .within-limits))
+      (fails-after 14 row (readTests nb) (last mb nb) (read-all-pass nb (netlistIn nb) (is .netlist))
       (inr (is .size, fails-at-row (netlistIn nb) (matrix mb) (headAt nb .m) row (is .among) (is .below) (is .differs))))
 
   -- 14 names the lowest row that differs
