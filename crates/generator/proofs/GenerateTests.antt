@@ -2,7 +2,6 @@
 -- Assumes nothing.
 use Prim.Native.Nat.{ℕ, _≤_, _<_}
 use mathlib.Core.Path.{_≡_, refl, ap}
-use mathlib.Core.Bool.{true, false}
 use mathlib.Core.Logic.{_↔_, inl}
 use mathlib.Core.List.{[], _∷_}
 use native.Mathlib.Omega.{arith}
@@ -12,9 +11,9 @@ use borrow.Author.Tests.{ltb-false, le-ltb}
 use Rattle.limits.specs.Size.{SizeLimits, sizeOutside}
 use Rattle.limits.proofs.Size.{size-within, size-inside}
 use Rattle.layout_rules.specs.Tests.{tested, AllPass, FirstFails}
-use Rattle.layout_rules.proofs.TestLaws.{Decided, behind-fault, declined-first, passed-all}
+use Rattle.layout_rules.proofs.TestLaws.{Decided, RefusedBy, one-fault, no-test, behind-refusal, declined-first, passed-all}
 use Rattle.generator.specs.declared.GenerateAnswer.{GenerateAnswer}
-use Rattle.generator.specs.Generator.{generatedRecord, generateRefused, generateAccepted, generateAnswer}
+use Rattle.generator.specs.Generator.{generatedRecord, generateRefused, generateAccepted, generateRefusal, generateAnswer}
 use Rattle.generator.specs.Tests.{generateTests}
 
 module _ (m n seed room : ℕ) where
@@ -24,14 +23,16 @@ module _ (m n seed room : ℕ) where
   abbrev accepted : GenerateAnswer
   accepted = generateAccepted m n seed
 
+  generate-refused : RefusedBy (generateTests m n seed room) (generateRefusal m n seed room) 0
+  unfolding generateTests generateRefusal
+  generate-refused =
+      one-fault (tested 6 0 (size ≤ room) ∷ []) (sizeOutside m n) (SizeLimits m n) 4 0 _ (omega arith) (size-within m n, size-inside m n)
+      (one-fault [] (ltb room size) (size ≤ room) 6 0 0 (omega arith) (ltb-false room size, le-ltb room size) (no-test 0))
+
   generate-decided : Decided (generateTests m n seed room) (generateAnswer m n seed room) accepted generateRefused
   unfolding generateTests generateAnswer
   generate-decided =
-      behind-fault (tested 6 0 (size ≤ room) ∷ []) (sizeOutside m n) (SizeLimits m n) 4 0
-      (elim (ltb room size) [ true ↦ generateRefused 6 0 | false ↦ accepted ]) accepted generateRefused (omega arith)
-      (size-within m n, size-inside m n) (λ limits.
-      behind-fault [] (ltb room size) (size ≤ room) 6 0 accepted accepted generateRefused (omega arith)
-      (ltb-false room size, le-ltb room size) (λ fits. inl (refl, tt)))
+      behind-refusal (generateTests m n seed room) [] (generateRefusal m n seed room) 0 accepted accepted generateRefused generate-refused (inl (refl, tt))
 
   other-number : (r place : ℕ) → 0 < r → accepted ≡ generateRefused r place → ⊥
   other-number r place h e = omega (arith, ap (λ (a : GenerateAnswer). a .refusal) e)

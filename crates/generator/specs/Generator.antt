@@ -1,7 +1,7 @@
 -- Document 01, "Generated banks" and "Why a record was declined": the matrix record of m, n and a seed, and generate's answer.
 -- Assumes nothing.
 use Prim.Native.Nat.{ℕ, zero, suc, _+_, _*_, _/_, _%_, _^_}
-use mathlib.Core.Bool.{true, false}
+use mathlib.Core.Bool.{cond}
 use mathlib.Core.List.{List, [], _∷_, _++_}
 use lib.Bits.{bitXor}
 use lib.Dec.{ltb}
@@ -41,22 +41,18 @@ generateRefused r place = record { refusal = r; place = place; written = 0 }
 abbrev pub generateAccepted : ℕ → ℕ → ℕ → GenerateAnswer
 generateAccepted m n seed = record { refusal = 0; place = 0; written = length (generatedRecord m n seed) }
 
--- 4: m or n outside 1 to 8; then 6: the buffer, of so many bytes, is shorter than the record
+-- 4: m or n outside 1 to 8; then 6: the buffer, of so many bytes, is shorter than the record; 0: neither
+unfoldable pub generateRefusal : ℕ → ℕ → ℕ → ℕ → ℕ
+generateRefusal m n seed room = cond (sizeOutside m n) 4 (cond (ltb room (length (generatedRecord m n seed))) 6 0)
+
 unfoldable pub generateAnswer : ℕ → ℕ → ℕ → ℕ → GenerateAnswer
 generateAnswer m n seed room =
-    elim (sizeOutside m n) [
-      | true ↦ generateRefused 4 0
-      | false ↦ elim (ltb room (length (generatedRecord m n seed))) [ true ↦ generateRefused 6 0 | false ↦ generateAccepted m n seed ]
-    ]
+    elim (generateRefusal m n seed room) [ suc r ↦ generateRefused (suc r) 0 | zero ↦ generateAccepted m n seed ]
 
 -- the buffer afterwards: the record followed by the old bytes, or the old bytes where generate refuses
 unfoldable pub generateBuffer : ℕ → ℕ → ℕ → List ℕ → List ℕ
 generateBuffer m n seed buffer =
-    elim (sizeOutside m n) [
-      | true ↦ buffer
-      | false ↦
-          elim (ltb (length buffer) (length (generatedRecord m n seed))) [
-            | true ↦ buffer
-            | false ↦ generatedRecord m n seed ++ drop (length (generatedRecord m n seed)) buffer
-          ]
+    elim (generateRefusal m n seed (length buffer)) [
+      | suc r ↦ buffer
+      | zero ↦ generatedRecord m n seed ++ drop (length (generatedRecord m n seed)) buffer
     ]

@@ -11,13 +11,9 @@ abbrev pub ascii : String → List ℕ
 ascii none = []
 ascii (_then_ c s) = code c ∷ ascii s
 
--- what stands behind a refusal's number: its place
-abbrev pub placeText : ℕ → List ℕ
-placeText place = ascii " at " ++ number place ++ ascii "\n"
-
 -- a refusal: its number and its place
 abbrev pub refusedLine : ℕ → ℕ → List ℕ
-refusedLine refusal place = ascii "refused " ++ number refusal ++ placeText place
+refusedLine refusal place = ascii "refused " ++ number refusal ++ (ascii " at " ++ number place ++ ascii "\n")
 
 abbrev pub longestRefusedLine : ℕ
 longestRefusedLine = 38

@@ -4,7 +4,7 @@ ghost use mathlib.Core.List.{_++_};
 ghost use Prim.Native.Nat.{_+_, _≤_};
 ghost use lib.ListN.{length};
 ghost use Rattle.text.specs.Decimal.{number};
-ghost use Rattle.text.specs.Text.{ascii, placeText, refusedLine, longestRefusedLine};
+ghost use Rattle.text.specs.Text.{ascii, refusedLine, longestRefusedLine};
 ghost use Rattle.text.specs.Wrote.{Wrote};
 
 // A number in decimal: its digits are worked out from the last to the first, then copied.
@@ -55,15 +55,15 @@ pub fn write_last(label: &[u8], value: u16, text: &mut [u8]) -> usize
     at + bytes::copy(b"\n", &mut text[at..])
 }
 
-// What stands behind a refusal's number.
-fn write_place(place: usize, text: &mut [u8]) -> usize
-    requires { ⌜ 25 ≤ length (now text) ⌝ }
-    ensures { λ r. ⌜ Wrote (now (text .entry)) (now (text .exit)) r (placeText place) ⌝ }
-    ensures { λ r. ⌜ r ≤ 25 ⌝ }
+// A number of at most 20 digits between two labels.
+pub fn write_between(label: &[u8], value: usize, other: &[u8], text: &mut [u8]) -> usize
+    requires { ⌜ length (now label) + length (now other) + 20 ≤ length (now text) ⌝ }
+    ensures { λ r. ⌜ Wrote (now (text .entry)) (now (text .exit)) r (now (label .entry) ++ number value ++ now (other .entry)) ⌝ }
+    ensures { λ r. ⌜ r ≤ length (now (label .entry)) + length (now (other .entry)) + 20 ⌝ }
 {
-    let at = bytes::copy(b" at ", text);
-    let end = at + write_number(place, &mut text[at..]);
-    end + bytes::copy(b"\n", &mut text[end..])
+    let at = bytes::copy(label, text);
+    let end = at + write_number(value, &mut text[at..]);
+    end + bytes::copy(other, &mut text[end..])
 }
 
 // Bytes that hold the line of a refusal: a number of 5 digits and a place of 20.
@@ -76,5 +76,5 @@ pub fn write_refused(refusal: u8, place: usize, text: &mut [u8]) -> usize
     ensures { λ r. ⌜ r ≤ longestRefusedLine ⌝ }
 {
     let at = write_labelled(b"refused ", refusal as u16, text);
-    at + write_place(place, &mut text[at..])
+    at + write_between(b" at ", place, b"\n", &mut text[at..])
 }

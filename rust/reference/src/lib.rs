@@ -1,7 +1,7 @@
 //! The bank compiler of document 01 in plain Rust, written from its text alone.
 //!
 //! It is the other side of every comparison with the verified library: tests hold the two answers against each other, and
-//! the benchmark takes it as its base. The five calls have the shape of the verified library's wrappers, and a buffer that
+//! the benchmark takes it as its base. The calls have the shape of the verified library's wrappers, and a buffer that
 //! a call is lent changes only where the call is accepted.
 
 mod board;
@@ -9,6 +9,7 @@ mod check;
 mod compile;
 mod digits;
 mod elimination;
+mod generator;
 mod matrix;
 mod read;
 mod record;
@@ -21,6 +22,7 @@ mod literal;
 
 pub use check::check;
 pub use compile::{compile, Compiled};
+pub use generator::generate;
 pub use read::{read, Netlist};
 pub use record::{step, Record};
 pub use refusal::{returned, Refusal};

@@ -7,7 +7,7 @@ use crate::refusal::{require, Refusal};
 pub(crate) const MOST: usize = 8;
 
 /// The bytes before the first coefficient.
-const START: usize = 6;
+pub(crate) const START: usize = 6;
 
 pub(crate) struct Matrix {
     pub m: usize,
@@ -25,7 +25,7 @@ impl Matrix {
         require(two_bytes(record, 2) == 1, 3, 0)?;
         let (m, n) = (usize::from(record[4]), usize::from(record[5]));
         require(is_size(m) && is_size(n), 4, 0)?;
-        require(length == START + 2 * m * n, 5, 0)?;
+        require(length == record_length(m, n), 5, 0)?;
 
         let mut rows = [[0; MOST]; MOST];
         for (row, bytes) in rows.iter_mut().zip(record[START..].chunks_exact(2 * n)) {
@@ -40,4 +40,9 @@ impl Matrix {
 /// Whether `count` is a number of rows or columns within the limits.
 pub(crate) fn is_size(count: usize) -> bool {
     (1..=MOST).contains(&count)
+}
+
+/// The bytes of a record of so many rows and columns.
+pub(crate) fn record_length(m: usize, n: usize) -> usize {
+    START + 2 * m * n
 }

@@ -12,11 +12,14 @@ use std::{env, fs};
 use cases::{any_matrix, any_netlist, damage, damage_matrix, each, plain_netlist, Met, Random};
 use reference::Refusal;
 
+/// How many of the later requests are in force: the program's first word.
+const REQUESTS: &str = "1";
+
 fn bank(words: &[&str], input: &[u8]) -> Output {
     let program = env::var("BANK").expect("BANK is the path of bank.py");
     let mut child = Command::new("python3")
         .arg(program)
-        .arg("0")
+        .arg(REQUESTS)
         .args(words)
         .stdin(Stdio::piped())
         .stdout(Stdio::piped())
@@ -116,6 +119,22 @@ fn compare_run(met: &mut Met, netlist: &[u8], samples: &[i16], m: usize) {
     assert_eq!(words.join(" "), ours);
 }
 
+fn compare_generate(met: &mut Met, m: u8, n: u8, seed: u32, room: usize) {
+    let words = format!("generate {m} {n} {seed} {room}");
+    let theirs = bank(&words.split(' ').collect::<Vec<_>>(), &[]);
+    let mut buffer = vec![0; room];
+    match reference::generate(m, n, seed, &mut buffer) {
+        Ok(written) => {
+            met.count(0);
+            assert_eq!(theirs.stdout, buffer[..written]);
+        }
+        Err(refusal) => {
+            met.count(refusal.number);
+            assert_eq!(text(&theirs.stderr), refused(refusal));
+        }
+    }
+}
+
 fn file(name: &str, bytes: &[u8]) -> PathBuf {
     let name = format!("reference-oracle-{}-{name}", std::process::id());
     let path = env::temp_dir().join(name);
@@ -127,13 +146,17 @@ fn samples(random: &mut Random, count: usize) -> Vec<i16> {
     (0..count).map(|_| random.sample()).collect()
 }
 
+/// How many cases are made: COUNT chooses.
+fn count() -> u64 {
+    env::var("COUNT").map_or(500, |count| count.parse().unwrap())
+}
+
 #[test]
 #[ignore = "needs BANK, the path of a second program"]
 fn oracle_agrees() {
     let (mut compiled, mut read) = (Met::default(), Met::default());
     let (mut checked, mut run) = (Met::default(), Met::default());
-    let count = env::var("COUNT").map_or(500, |count| count.parse().unwrap());
-    each(0, count, |random| {
+    each(0, count(), |random| {
         let matrix = any_matrix(random, 8, 8);
         let record = matrix.record();
         let netlist = compare_compile(&mut compiled, &record).unwrap();
@@ -164,4 +187,18 @@ fn oracle_agrees() {
     let check_numbers = [0, 1, 2, 3, 4, 5, 7, 8, 9, 10, 11, 12, 13, 14];
     checked.assert_exactly("check", &check_numbers, 1);
     run.assert_exactly("run", &[0, 7, 8, 9, 10, 11, 12, 15], 1);
+}
+
+#[test]
+#[ignore = "needs BANK, the path of a second program"]
+fn oracle_generates_the_same() {
+    let mut generated = Met::default();
+    each(0, count(), |random| {
+        let (m, n) = (random.between(0, 9) as u8, random.between(0, 9) as u8);
+        let seed = random.number() as u32;
+        let length = 6 + 2 * usize::from(m) * usize::from(n);
+        let room = random.choose(&[0, length - 1, length, length + 1, 134]);
+        compare_generate(&mut generated, m, n, seed, room);
+    });
+    generated.assert_exactly("generate", &[0, 4, 6], 1);
 }

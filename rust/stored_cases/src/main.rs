@@ -1,10 +1,12 @@
-//! Writes what each program reads in the gate, and what it must print, into crates/NAME/stdin and crates/NAME/stdout:
+//! Writes what each program reads in the gate, and what it must print, into crates/NAME/stdin and crates/NAME/stdout, and
+//! tests/burn-in-spread.out:
 //!
-//!     cd rust && cargo run --release --offline -p stored_cases ../crates
+//!     cd rust && cargo run --release --offline -p stored_cases ..
 //!
 //! The choice of cases is deterministic. Expected outputs are those of `reference` and never of the programs under test, whose
 //! sources say how their input is laid out. `cargo test` compares the stored files with what this writes.
 
+mod burn_in;
 mod case;
 mod check;
 mod compile;
@@ -17,15 +19,17 @@ use std::path::{Path, PathBuf};
 use std::{env, fs};
 
 use case::Case;
-use matrices::{netlist, three_minus_three};
+use matrices::{netlist, three_minus_three, MATRIX_ROOM};
 
 /// The programs by name.
-fn programs() -> [(&'static str, Case); 4] {
+fn programs() -> [(&'static str, Case); 6] {
     [
         ("test_calls", test_calls()),
         ("run_bank", run_bank()),
         ("compile_bank", compile_bank()),
         ("check_bank", check_bank()),
+        ("generate_bank", generate_bank()),
+        ("burn_in", burn_in::burn_in()),
     ]
 }
 
@@ -72,19 +76,33 @@ fn run_bank() -> Case {
     }
 }
 
-/// The stored files under the folder of the crates, and what they hold.
-fn files(crates: &Path) -> Vec<(PathBuf, Vec<u8>)> {
-    let mut all = Vec::new();
+/// The first seed whose bank is not that of seed 0.
+fn generate_bank() -> Case {
+    let seed: u32 = 979;
+    let mut record = vec![0; MATRIX_ROOM];
+    let written = reference::generate(8, 8, seed, &mut record);
+    assert_eq!(written, Ok(record.len()));
+    Case {
+        stdin: [&[8, 8][..], &seed.to_le_bytes()].concat(),
+        stdout: record,
+    }
+}
+
+/// The stored files under the repository's folder, and what they hold.
+fn files(root: &Path) -> Vec<(PathBuf, Vec<u8>)> {
+    let spread = root.join("tests/burn-in-spread.out");
+    let mut all = vec![(spread, burn_in::spread_lines())];
     for (name, case) in programs() {
-        all.push((crates.join(name).join("stdin"), case.stdin));
-        all.push((crates.join(name).join("stdout"), case.stdout));
+        let folder = root.join("crates").join(name);
+        all.push((folder.join("stdin"), case.stdin));
+        all.push((folder.join("stdout"), case.stdout));
     }
     all
 }
 
 fn main() {
-    let crates = env::args().nth(1).expect("the folder of the crates");
-    for (path, bytes) in files(Path::new(&crates)) {
+    let root = env::args().nth(1).expect("the repository's folder");
+    for (path, bytes) in files(Path::new(&root)) {
         fs::write(&path, bytes).unwrap_or_else(|error| panic!("{}: {error}", path.display()));
     }
 }
@@ -95,8 +113,8 @@ mod tests {
 
     #[test]
     fn stored_files_are_those_made() {
-        let crates = Path::new(env!("CARGO_MANIFEST_DIR")).join("../../crates");
-        let mut files = files(&crates);
+        let root = Path::new(env!("CARGO_MANIFEST_DIR")).join("../..");
+        let mut files = files(&root);
         files.retain(|(path, bytes)| fs::read(path).ok().as_ref() != Some(bytes));
         let others: Vec<PathBuf> = files.into_iter().map(|(path, _)| path).collect();
         assert!(others.is_empty(), "missing or different: {others:?}");

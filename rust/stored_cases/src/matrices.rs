@@ -27,6 +27,9 @@ const ALONE: [i16; 14] = [
 /// The bytes that suffice for every netlist.
 pub const ROOM: usize = 6136;
 
+/// The bytes that suffice for every matrix record: those of 8 by 8.
+pub const MATRIX_ROOM: usize = 134;
+
 /// Document 01's example.
 pub fn three_minus_three() -> Matrix {
     Matrix::of_rows(&[&[3, -3]])

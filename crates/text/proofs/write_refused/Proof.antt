@@ -1,39 +1,44 @@
 -- `text::write_refused` meets its contract. Assumes nothing.
-use mathlib.Core.Path.{refl}
 use native.Mathlib.Omega.{arith}
-use lib.ListN.{length-take, length-drop}
+use borrow.Author.Needs.{needs}
 use Rattle.text.proofs.Wrote.{wrote-more}
 use Rattle.text.proofs.write_refused.Statement.{statement}
 use Rattle.text.proofs.write_refused.Tie as tie
 
 slice-aggregate-write-labelled : tie.Need-slice-aggregate-write-labelled
-slice-aggregate-write-labelled c = refl
+slice-aggregate-write-labelled c = search needs
 
 write-labelled-requires : tie.Need-write-labelled-requires
-write-labelled-requires c κs = omega arith
+write-labelled-requires c κs = search needs
 
-sub-write-place : tie.Need-sub-write-place
-sub-write-place c = omega arith
+slice-aggregate-write-between : tie.Need-slice-aggregate-write-between
+slice-aggregate-write-between c = search needs
 
-part-write-place-start : tie.Need-part-write-place-start
-part-write-place-start c = omega arith
+slice-aggregate-write-between-2 : tie.Need-slice-aggregate-write-between-2
+slice-aggregate-write-between-2 c = search needs
 
-part-write-place-end : tie.Need-part-write-place-end
-part-write-place-end c = omega arith
+sub-write-between : tie.Need-sub-write-between
+sub-write-between c = search needs
 
-write-place-requires : tie.Need-write-place-requires
-write-place-requires c κs = simp (length-take, length-drop) (omega arith)
+part-write-between-start : tie.Need-part-write-between-start
+part-write-between-start c = search needs
+
+part-write-between-end : tie.Need-part-write-between-end
+part-write-between-end c = search needs
+
+write-between-requires : tie.Need-write-between-requires
+write-between-requires c κs = search needs
 
 add-result : tie.Need-add-result
-add-result c = omega arith
+add-result c = search needs
 
 same-length : tie.Need-same-length
-same-length c = omega arith
+same-length c = search needs
 
 returns : tie.Need-returns
 returns c =
-    let first = c .before .before .before .before .before .before .write-labelled in
-    let rest = c .before .before .write-place in
+    let first = c .before .before .before .before .before .before .before .before .write-labelled in
+    let rest = c .before .before .write-between in
     (wrote-more (first .ensures .0) (rest .ensures .0), omega (arith, first .ensures .1, rest .ensures .1))
 
 pub write-refused-spec : {M : Type 1} → statement M
@@ -42,10 +47,12 @@ write-refused-spec =
     (tie.spec
     slice-aggregate-write-labelled
     write-labelled-requires
-    sub-write-place
-    part-write-place-start
-    part-write-place-end
-    write-place-requires
+    slice-aggregate-write-between
+    slice-aggregate-write-between-2
+    sub-write-between
+    part-write-between-start
+    part-write-between-end
+    write-between-requires
     add-result
     same-length
     returns)
