@@ -1,4 +1,5 @@
-/* Zaatarloft's calls for C and C++: compile, read, check, run and step, as docs/SPECIFICATION.md, cited as document 01, has them.
+/* Zaatarloft's calls for C and C++: compile, read, check, run, step and generate, as docs/SPECIFICATION.md has them, which is
+ * cited as document 01.
  * The library is target/staticlib/libzaatarloft.a, for x86-64 Linux; `rt staticlib zaatarloft` proves and builds it.
  *
  * Every call returns its answer as a struct: the refusal's number, 0 where it accepts, its place, then the other numbers, which
@@ -19,6 +20,9 @@
 
 /* So many bytes always suffice for a netlist. */
 #define ZAATARLOFT_NETLIST_BYTES 6136
+
+/* So many bytes always suffice for a matrix record, of up to 8 by 8. */
+#define ZAATARLOFT_MATRIX_BYTES 134
 
 #ifdef __cplusplus
 extern "C" {
@@ -41,7 +45,7 @@ static inline const char *zaatarloft_refusal_words(uint8_t refusal)
     case 5: /* place 0 */
         return "the matrix's length is not 6 + 2 times m times n";
     case 6: /* place 0 */
-        return "output buffer shorter than the netlist";
+        return "output buffer shorter than the netlist or the matrix record";
     case 7: /* record's start */
         return "under 4 bytes remain, or the length exceeds what remains";
     case 8: /* record's start */
@@ -88,6 +92,9 @@ uint8_t zaatarloft_raw_run(const uint8_t *netlist, size_t netlist_length, const 
 
 uint8_t zaatarloft_raw_step(const uint8_t *bytes, size_t bytes_length, size_t at, size_t *place, uint16_t *kind,
                             size_t *next);
+
+uint8_t zaatarloft_raw_generate(uint8_t m, uint8_t n, uint32_t seed, uint8_t *buffer, size_t buffer_length, size_t *place,
+                                size_t *written);
 
 /* ---- The calls */
 
@@ -182,6 +189,21 @@ static inline struct zaatarloft_record zaatarloft_step(const uint8_t *bytes, siz
         answer.payload = bytes + at + 4;
         answer.payload_length = answer.next - at - 4;
     }
+    return answer;
+}
+
+struct zaatarloft_generated {
+    uint8_t refusal;
+    size_t place;
+    size_t written; /* bytes of the buffer */
+};
+
+/* From m, n and a seed to the matrix record that they name, in the buffer as compile leaves a netlist there. Refusals 4, 6. */
+static inline struct zaatarloft_generated zaatarloft_generate(uint8_t m, uint8_t n, uint32_t seed, uint8_t *buffer,
+                                                              size_t buffer_length)
+{
+    struct zaatarloft_generated answer;
+    answer.refusal = zaatarloft_raw_generate(m, n, seed, buffer, buffer_length, &answer.place, &answer.written);
     return answer;
 }
 

@@ -1,7 +1,8 @@
 //! Zaatarloft's calls for Rust: safe wrappers of the proved library.
 //!
-//! A matrix record goes in as bytes, a netlist of additions, subtractions and shifts comes out as bytes. The calls are proved;
-//! these wrappers are not. Each returns what document 01 says, or the refusal with its number and place.
+//! A matrix record goes in as bytes, a netlist of additions, subtractions and shifts comes out as bytes; `generate` makes
+//! matrix records from seeds. The calls are proved; these wrappers are not. Each returns what document 01 says, or the refusal
+//! with its number and place.
 //!
 //! ```
 //! let matrix = [0x0A, 0, 1, 0, 1, 2, 3, 0, 0xFD, 0xFF]; // row 3, −3
@@ -208,4 +209,24 @@ pub fn step(bytes: &[u8], place: usize) -> Result<Record<'_>, Refusal> {
         payload: &bytes[place + 4..next],
         next,
     })
+}
+
+/// From m, n and a seed to the matrix record that they name, at the start of the buffer; returns the bytes written. The bytes
+/// behind them are as they were; 134 bytes always suffice. Refusals 4 and 6, which leave the buffer as it was.
+pub fn generate(m: u8, n: u8, seed: u32, buffer: &mut [u8]) -> Result<usize, Refusal> {
+    let mut place = 0;
+    let mut written = 0;
+    // SAFETY: the slice is valid for its length and for writes, and both references are to distinct numbers.
+    let number = unsafe {
+        raw::zaatarloft_raw_generate(
+            m,
+            n,
+            seed,
+            buffer.as_mut_ptr(),
+            buffer.len(),
+            &mut place,
+            &mut written,
+        )
+    };
+    accepted(number, place, written)
 }

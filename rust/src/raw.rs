@@ -58,3 +58,14 @@ extern "C" {
         next: *mut usize,
     ) -> u8;
 }
+extern "C" {
+    pub fn zaatarloft_raw_generate(
+        m: u8,
+        n: u8,
+        seed: u32,
+        buffer: *mut u8,
+        buffer_length: usize,
+        place: *mut usize,
+        written: *mut usize,
+    ) -> u8;
+}

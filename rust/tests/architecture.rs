@@ -18,6 +18,7 @@ const PROMISES: [(&str, &[&str]); 4] = [
             "netlist_rules/Read",
             "netlist_rules/Check",
             "netlist_rules/Run",
+            "generator/Generator",
         ],
     ),
     (
@@ -28,7 +29,14 @@ const PROMISES: [(&str, &[&str]); 4] = [
             "compile_rules/Compiled",
         ],
     ),
-    ("tests", &["compile_rules/Tests", "netlist_rules/Tests"]),
+    (
+        "tests",
+        &[
+            "compile_rules/Tests",
+            "netlist_rules/Tests",
+            "generator/Tests",
+        ],
+    ),
     (
         "programs",
         &[
@@ -36,6 +44,8 @@ const PROMISES: [(&str, &[&str]); 4] = [
             "compile_output/CompileOutput",
             "run_text/RunText",
             "check_text/CheckText",
+            "generate_output/GenerateOutput",
+            "burn_in_text/BurnInText",
         ],
     ),
 ];

@@ -1,5 +1,5 @@
-// Document 01's five calls for hosts in C and Rust, over numbers and slices of numbers alone. Rests on `compile`,
-// `netlist_read`, `netlist_check`, `netlist_run` and `layout_step`.
+// Document 01's six calls for hosts in C and Rust, over numbers and slices of numbers alone. Rests on `compile`,
+// `netlist_read`, `netlist_check`, `netlist_run`, `layout_step` and `generator`.
 // Each function returns the refusal's number, 0 where it accepts, and writes the other numbers of the answer through the references.
 // The names say raw: include/zaatarloft.h and rust/src/lib.rs have calls over them that give an answer as one struct.
 ghost use mathlib.Core.Path.{_≡_};
@@ -9,6 +9,7 @@ ghost use Rattle.netlist_rules.specs.Read.{readAnswer};
 ghost use Rattle.netlist_rules.specs.Check.{checkAnswer};
 ghost use Rattle.netlist_rules.specs.Run.{runAnswer, runOutputs};
 ghost use Rattle.layout_rules.specs.Step.{stepNumbers};
+ghost use Rattle.generator.specs.Generator.{generateAnswer, generateBuffer};
 
 // Compile: from a matrix record to its netlist, at the start of the lent buffer.
 #[no_mangle]
@@ -100,4 +101,23 @@ pub extern "C" fn zaatarloft_raw_step(
     *kind = numbers.kind;
     *next = numbers.next;
     numbers.refusal
+}
+
+// Generate: the matrix record of m, n and a seed, at the start of the lent buffer.
+#[no_mangle]
+pub extern "C" fn zaatarloft_raw_generate(
+    m: u8,
+    n: u8,
+    seed: u32,
+    buffer: &mut [u8],
+    place: &mut usize,
+    written: &mut usize,
+) -> u8
+    ensures { λ r. ⌜ record { refusal = r; place = now (place .exit); written = now (written .exit) } ≡ generateAnswer m n seed (length (now (buffer .entry))) ⌝ }
+    ensures { λ _. ⌜ now (buffer .exit) ≡ generateBuffer m n seed (now (buffer .entry)) ⌝ }
+{
+    let generated = generator::generate(m, n, seed, buffer);
+    *place = generated.place;
+    *written = generated.written;
+    generated.refusal
 }

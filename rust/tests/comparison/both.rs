@@ -15,6 +15,7 @@ pub struct Both {
     check: Met,
     run: Met,
     step: Met,
+    generate: Met,
 }
 
 /// A refusal's number and place, of either side.
@@ -126,6 +127,21 @@ impl Both {
         self.step.count(number(&answer));
     }
 
+    /// Generates into a buffer with these old bytes, and returns the matrix record where it was accepted.
+    pub fn generate(&mut self, m: u8, n: u8, seed: u32, old: &[u8]) -> Option<Vec<u8>> {
+        let (answer, buffer) = lend(old, 0x5A, |lent| zaatarloft::generate(m, n, seed, lent));
+        let (expected, contents) = lend(old, 0x5A, |lent| reference::generate(m, n, seed, lent));
+        let (answer, expected) = (verified(answer), independent(expected));
+        let room = old.len();
+        assert_eq!(answer, expected, "generate {m} {n} {seed}, {room} bytes");
+        assert_eq!(buffer, contents, "buffer of {m} {n} {seed}, {room} bytes");
+        self.generate.count(number(&answer));
+
+        let written = answer.unwrap_or(0);
+        assert_eq!(buffer[written..], old[written..]);
+        answer.ok().map(|_| buffer[..written].to_vec())
+    }
+
     pub fn assert_compile(&self, numbers: &[u8], least: u64) {
         self.compile.assert_exactly("compile", numbers, least);
     }
@@ -144,5 +160,9 @@ impl Both {
 
     pub fn assert_step(&self, numbers: &[u8], least: u64) {
         self.step.assert_exactly("step", numbers, least);
+    }
+
+    pub fn assert_generate(&self, numbers: &[u8], least: u64) {
+        self.generate.assert_exactly("generate", numbers, least);
     }
 }

@@ -5,6 +5,7 @@
 
 mod both;
 mod compile;
+mod generate;
 mod netlists;
 mod raw;
 mod records;

@@ -4,7 +4,8 @@
 use cases::{any_matrix, any_netlist, damage, damage_matrix, each, Met};
 use reference::returned;
 use zaatarloft::raw::{
-    zaatarloft_raw_compile, zaatarloft_raw_read, zaatarloft_raw_run, zaatarloft_raw_step,
+    zaatarloft_raw_compile, zaatarloft_raw_generate, zaatarloft_raw_read, zaatarloft_raw_run,
+    zaatarloft_raw_step,
 };
 
 #[test]
@@ -126,4 +127,33 @@ fn numbers_of_run() {
         assert_eq!(outputs, values);
     });
     met.assert_exactly("run", &[0, 7, 8, 9, 10, 11, 12, 15, 16], 100);
+}
+
+#[test]
+fn numbers_of_generate() {
+    let mut met = Met::default();
+    each(17_000_000, 20_000, |random| {
+        let (m, n) = (random.between(0, 9) as u8, random.between(0, 9) as u8);
+        let seed = random.number() as u32;
+        let room = random.between(0, 140);
+        let mut buffer = vec![0; room];
+        let (mut place, mut written) = (77, 77);
+        // SAFETY: the slice is valid for its length, and the numbers are distinct.
+        let number = unsafe {
+            zaatarloft_raw_generate(
+                m,
+                n,
+                seed,
+                buffer.as_mut_ptr(),
+                buffer.len(),
+                &mut place,
+                &mut written,
+            )
+        };
+        met.count(number);
+        let expected = reference::generate(m, n, seed, &mut vec![0; room]);
+        assert_eq!((number, place), returned(&expected));
+        assert_eq!(written, expected.unwrap_or(0));
+    });
+    met.assert_exactly("generate", &[0, 4, 6], 100);
 }
