@@ -1,9 +1,9 @@
-//! What is measured: the four calls of both sides, on spread random banks.
+//! What is measured: five calls of both sides, on spread random banks.
 
 use cases::{bank, Random};
 
 /// The bytes that suffice for every netlist.
-const ROOM: usize = 6136;
+pub const NETLIST_ROOM: usize = 6136;
 
 #[derive(Clone, Copy, Debug, PartialEq, Eq)]
 pub enum Call {
@@ -11,9 +11,16 @@ pub enum Call {
     Read,
     Check,
     Run,
+    Generate,
 }
 
-pub const CALLS: [Call; 4] = [Call::Compile, Call::Read, Call::Check, Call::Run];
+pub const CALLS: [Call; 5] = [
+    Call::Compile,
+    Call::Read,
+    Call::Check,
+    Call::Run,
+    Call::Generate,
+];
 
 impl Call {
     pub fn name(self) -> &'static str {
@@ -22,6 +29,7 @@ impl Call {
             Call::Read => "read",
             Call::Check => "check",
             Call::Run => "run",
+            Call::Generate => "generate",
         }
     }
 
@@ -59,6 +67,9 @@ pub struct Input {
     netlist: Vec<u8>,
     samples: Vec<i16>,
     outputs: Vec<i64>,
+    /// Not the bank's matrix: a generated record of its size.
+    generated: Vec<u8>,
+    seed: u32,
     pub operations: usize,
 }
 
@@ -67,9 +78,11 @@ impl Input {
     pub fn of_seed(seed: u64, m: usize, n: usize, bits: u32) -> Self {
         let mut random = Random::new(seed);
         let matrix = bank(&mut random, m, n, bits).record();
-        let mut buffer = vec![0; ROOM];
+        let mut buffer = vec![0; NETLIST_ROOM];
         let compiled = reference::compile(&matrix, &mut buffer).expect("a right record");
         Input {
+            generated: matrix.clone(),
+            seed: seed as u32,
             matrix,
             netlist: buffer[..compiled.written].to_vec(),
             buffer,
@@ -83,6 +96,7 @@ impl Input {
     pub fn call(&mut self, call: Call, side: Side) {
         let (matrix, netlist) = (&self.matrix, &self.netlist);
         let (samples, outputs) = (&self.samples, &mut self.outputs);
+        let (m, n) = (matrix[4], matrix[5]);
         let accepted = match (side, call) {
             (Side::Verified, Call::Compile) => {
                 zaatarloft::compile(matrix, &mut self.buffer).is_ok()
@@ -90,12 +104,18 @@ impl Input {
             (Side::Verified, Call::Read) => zaatarloft::read(netlist).is_ok(),
             (Side::Verified, Call::Check) => zaatarloft::check(matrix, netlist).is_ok(),
             (Side::Verified, Call::Run) => zaatarloft::run(netlist, samples, outputs).is_ok(),
+            (Side::Verified, Call::Generate) => {
+                zaatarloft::generate(m, n, self.seed, &mut self.generated).is_ok()
+            }
             (Side::Independent, Call::Compile) => {
                 reference::compile(matrix, &mut self.buffer).is_ok()
             }
             (Side::Independent, Call::Read) => reference::read(netlist).is_ok(),
             (Side::Independent, Call::Check) => reference::check(matrix, netlist).is_ok(),
             (Side::Independent, Call::Run) => reference::run(netlist, samples, outputs).is_ok(),
+            (Side::Independent, Call::Generate) => {
+                reference::generate(m, n, self.seed, &mut self.generated).is_ok()
+            }
         };
         assert!(accepted);
     }

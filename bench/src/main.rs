@@ -1,5 +1,6 @@
 //! Measures both sides and writes docs/BENCHMARKS.md: bench FOLDER-OF-THE-REPOSITORY.
 
+mod burn_in;
 mod machine;
 mod programs;
 mod tables;
@@ -77,6 +78,7 @@ fn main() {
     let count = |call, side| programs::instructions(folder, call, side, 8, 16);
     let instructions = Figures::of(count);
     let memory = programs::memory(folder);
+    let burn_in = burn_in::RUNS.map(|(seeds, step)| (seeds, burn_in::times(step)));
 
     let mut text = String::new();
     tables::ratios(&mut text, &calls, &instructions);
@@ -86,6 +88,7 @@ fn main() {
     tables::growth(&mut text, "coefficient size", &bits, |g| {
         format!("{} bits", g.bits)
     });
+    tables::burn_in(&mut text, &burn_in);
     tables::memory(&mut text, &memory);
     tables::absolute(&mut text, &calls, &instructions, &machine);
     replace_measured(&root.join("docs/BENCHMARKS.md"), &text);

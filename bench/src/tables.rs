@@ -63,6 +63,17 @@ pub fn growth(text: &mut String, what: &str, rows: &[&Growth], label: impl Fn(&G
     text.push('\n');
 }
 
+pub fn burn_in(text: &mut String, runs: &[(&str, [f64; 2])]) {
+    text.push_str("## Burn-in\n\n1,000 banks, each generated, compiled and checked.\n\n");
+    header(text, &["Seeds", "Ratio", "Verified", "Independent"]);
+    for &(seeds, [verified, independent]) in runs {
+        let ratio = format!("{:.1}", verified / independent);
+        let times = [verified, independent].map(seconds);
+        row(text, &[&[seeds.to_string(), ratio], &times[..]].concat());
+    }
+    text.push('\n');
+}
+
 pub fn memory(text: &mut String, memory: &Figures<Memory>) {
     text.push_str("## Memory\n\nThe most over 20 of the 8 by 8 banks, in bytes.\n\n");
     let columns = [

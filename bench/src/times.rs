@@ -116,7 +116,7 @@ extern "C" {
 }
 
 /// The thread's processor time in seconds (Linux on 64 bits).
-fn processor_time() -> f64 {
+pub fn processor_time() -> f64 {
     const THREAD_TIME: i32 = 3;
     let mut time = Timespec {
         seconds: 0,
