@@ -198,7 +198,8 @@ struct zaatarloft_generated {
     size_t written; /* bytes of the buffer */
 };
 
-/* From m, n and a seed to the matrix record that they name, in the buffer as compile leaves a netlist there. Refusals 4, 6. */
+/* From m, n and a seed to the matrix record that they name, in the buffer as compile leaves a netlist there. Refusals 4, 6.
+ * m and n are numbers of 8 bits: a larger one that a caller holds has to be tested before it is cut to these. */
 static inline struct zaatarloft_generated zaatarloft_generate(uint8_t m, uint8_t n, uint32_t seed, uint8_t *buffer,
                                                               size_t buffer_length)
 {

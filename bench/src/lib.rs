@@ -1,4 +1,4 @@
-//! What is measured: five calls of both sides, on spread random banks.
+//! What is measured: five calls of both sides, on spread random banks; generate on seeds of its own.
 
 use cases::{bank, Random};
 

@@ -27,6 +27,7 @@ const PROMISES: [(&str, &[&str]); 4] = [
             "bank_rules/Claim",
             "netlist_rules/Exact",
             "compile_rules/Compiled",
+            "generator/States",
         ],
     ),
     (

@@ -17,7 +17,7 @@ use Rattle.elimination_rules.specs.Steps.{Steps}
 use Rattle.layout_rules.specs.declared.Operation.{Operation}
 use Rattle.layout_rules.specs.declared.Output.{Output}
 use Rattle.layout_rules.specs.Bytes.{word}
-use Rattle.layout_rules.specs.Matrix.{rows, columns, matrixLength, matrix}
+use Rattle.layout_rules.specs.Matrix.{matrixKind, rows, columns, matrixLength, matrix}
 use Rattle.layout_rules.specs.Records.{Netlist}
 use Rattle.board_rules.specs.Machine.{machine, entryAt, outputValue, times}
 use Rattle.board_rules.specs.Width.{Within, Samples}
@@ -36,7 +36,7 @@ pub record MatrixWithinLimits (bytes : List ℕ) : Type 0 where
   pub are-bytes : (i : ℕ) → getD bytes i 0 < 256
   -- "length (2 bytes, little-endian, counting the whole record), kind (2 bytes, little-endian)"; "Kind 1, matrix"
   pub counted : word bytes 0 ≡ length bytes
-  pub kind : word bytes 2 ≡ 1
+  pub kind : word bytes 2 ≡ matrixKind
   -- "m (1 byte), n (1 byte), each 1 to 8"
   pub limits : SizeLimits (rows bytes) (columns bytes)
   -- "Length 6 + 2 times m times n. Every coefficient is allowed."

@@ -1,6 +1,6 @@
 // Document 01, "Programs": the text of list-bank for a matrix record. Rests on `limits`, `layout_records`, `compile` and
 // `listing`.
-use layout_records::places::ENOUGH_BYTES;
+use layout_records::places::no_netlist;
 use limits::MAX_OPERATIONS;
 use limits::MAX_ROWS;
 use listing_rules::Counts;
@@ -10,7 +10,6 @@ use listing_rules::LONGEST_OUTPUT_LINE;
 ghost use mathlib.Core.Path.{_≡_};
 ghost use Prim.Native.Nat.{_≤_};
 ghost use lib.ListN.{length};
-ghost use Rattle.layout_rules.specs.Places.{enoughBytes};
 ghost use Rattle.text.specs.Wrote.{Wrote, PrefixLength};
 ghost use Rattle.bank_text.specs.BankText.{bankText, longestBankText, bankTextIn};
 
@@ -18,12 +17,6 @@ ghost use Rattle.bank_text.specs.BankText.{bankText, longestBankText, ba
 pub const ROOM: usize = LONGEST_COUNTS_LINE
     + LONGEST_OPERATION_LINE * MAX_OPERATIONS
     + LONGEST_OUTPUT_LINE * MAX_ROWS;
-
-fn no_netlist() -> [u8; ENOUGH_BYTES]
-    ensures { λ r. ⌜ enoughBytes ≡ length r ⌝ }
-{
-    [0; ENOUGH_BYTES]
-}
 
 fn write_text(matrix: &[u8], text: &mut [u8]) -> usize
     requires { ⌜ longestBankText ≤ length (now text) ⌝ }

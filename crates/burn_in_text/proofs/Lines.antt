@@ -1,6 +1,6 @@
--- No seed is refused: compile takes every generated bank, and the checker passes its netlist.
+-- No seed is refused: compile takes every generated bank, and the checker passes its netlist. And the room for the text.
 -- Assumes nothing.
-use Prim.Native.Nat.{ℕ}
+use Prim.Native.Nat.{ℕ, _*_}
 use mathlib.Core.Path.{_≡_, refl, ap}
 use mathlib.Core.List.{List, _++_}
 use Rattle.limits.specs.Size.{SizeLimits}
@@ -11,7 +11,11 @@ use Rattle.generator.specs.Generator.{generatedRecord}
 use Rattle.generator.proofs.Within.{generated-accepted, generated-checked}
 use Rattle.text.specs.Decimal.{number}
 use Rattle.text.specs.Text.{ascii}
-use Rattle.burn_in_text.specs.BurnInText.{checkedText, outcomeText, burnInLine}
+use Rattle.burn_in_text.specs.BurnInText.{checkedText, outcomeText, burnInLine, longestBurnInLine, seedCount}
+
+-- the bytes that suffice for the text
+room : longestBurnInLine * seedCount ≡ 64000
+room = refl
 
 eight-by-eight : SizeLimits 8 8
 eight-by-eight = size-within 8 8 refl

@@ -5,16 +5,17 @@ use mathlib.Core.Path.{_≡_, refl, sym, ap, ap₂, _∙_}
 use mathlib.Core.List.{List, [], _++_, append-nil}
 use native.Mathlib.Nat.{suc-mul}
 use native.Mathlib.Omega.{arith}
-use lib.ListN.{length, take, drop, drop-of-length-le, length-append}
-use lib.Seq.{take-append-seam}
-use Rattle.layout_rules.specs.Matrix.{matrixLength, matrixRefusal}
+use lib.ListN.{length, take, drop, drop-of-length-le, length-take}
+use Rattle.layout_rules.specs.Matrix.{longestRecord, matrixRefusal}
 use Rattle.layout_rules.specs.Places.{enoughBytes}
 use Rattle.layout_rules.proofs.LittleEndian.{AreBytes}
 use Rattle.compile_rules.specs.declared.CompileAnswer.{CompileAnswer}
 use Rattle.compile_rules.specs.Compile.{compileAnswer, compileBuffer, compileAccepted, compiledBytes}
-use Rattle.compile_rules.proofs.Compiled.{room-refused, room-accepted, buffer-accepted, compiled-length}
+use Rattle.compile_rules.proofs.Compiled.{room-refused, room-accepted, compiled-length}
 use Rattle.netlist_rules.specs.declared.CheckAnswer.{CheckAnswer}
 use Rattle.netlist_rules.specs.Check.{checkAnswer}
+use Rattle.bank_rules.specs.Claim.{bytesWritten}
+use Rattle.bank_rules.proofs.Claim.{bytes-written}
 use Rattle.generator.specs.Generator.{generatedRecord, generateBuffer}
 use Rattle.generator.proofs.Answer.{generated-length, generate-accepted}
 use Rattle.text.specs.Decimal.{number}
@@ -46,16 +47,11 @@ module _ (bytes : List ℕ) (all : AreBytes bytes) (old after : List ℕ) (answe
     takes : answer ≡ compileAccepted bytes
     takes = room-accepted bytes all (length old) (omega arith) answer answered is-zero .1
 
-    wrote : after ≡ compiledBytes bytes ++ drop (length (compiledBytes bytes)) old
-    wrote = left ∙ buffer-accepted bytes old taken (omega (arith, compiled-length bytes all taken))
+    its-bytes : take (answer .written) after ≡ compiledBytes bytes
+    its-bytes = ap₂ bytesWritten answered left ∙ bytes-written bytes old taken (omega (arith, compiled-length bytes all taken))
 
     pub netlist-part : answer .written ≤ length after
-    netlist-part = omega (arith, ap (λ (a : CompileAnswer). a .written) takes, ap length wrote, length-append (compiledBytes bytes) (drop (length (compiledBytes bytes)) old))
-
-    its-bytes : take (answer .written) after ≡ compiledBytes bytes
-    its-bytes =
-        ap₂ (λ (a : CompileAnswer) (l : List ℕ). take (a .written) l) takes wrote
-        ∙ take-append-seam (compiledBytes bytes) (drop (length (compiledBytes bytes)) old)
+    netlist-part = omega (arith, ap (λ (a : CompileAnswer). a .written) takes, ap length its-bytes, length-take (answer .written) after)
 
     -- what check answers of the bytes that compile wrote
     module _ (check : CheckAnswer) (checks : check ≡ checkAnswer bytes (take (answer .written) after)) where
@@ -76,13 +72,13 @@ module _ (bytes : List ℕ) (all : AreBytes bytes) (old after : List ℕ) (answe
 -- ---- a seed's line
 
 -- the bank fills a buffer of its length
-record-filled : (seed : ℕ) (old : List ℕ) → matrixLength 8 8 ≡ length old → generateBuffer 8 8 seed old ≡ generatedRecord 8 8 seed
+record-filled : (seed : ℕ) (old : List ℕ) → longestRecord ≡ length old → generateBuffer 8 8 seed old ≡ generatedRecord 8 8 seed
 record-filled seed old e =
     let none : drop (length (generatedRecord 8 8 seed)) old ≡ [] =
     drop-of-length-le old {i = length (generatedRecord 8 8 seed)} (omega (arith, generated-length 8 8 seed)) in
     sym (generate-accepted 8 8 seed old refl (omega arith) .1) ∙ ap (λ (l : List ℕ). generatedRecord 8 8 seed ++ l) none ∙ append-nil (generatedRecord 8 8 seed)
 
-pub line-of : (seed : ℕ) (old filled : List ℕ) → matrixLength 8 8 ≡ length old → filled ≡ generateBuffer 8 8 seed old
+pub line-of : (seed : ℕ) (old filled : List ℕ) → longestRecord ≡ length old → filled ≡ generateBuffer 8 8 seed old
     → ascii "seed " ++ number seed ++ ascii " " ++ outcomeText filled ≡ burnInLine seed
 unfolding burnInLine
 line-of seed old filled size left = ap (λ (l : List ℕ). ascii "seed " ++ number seed ++ ascii " " ++ outcomeText l) (left ∙ record-filled seed old size)

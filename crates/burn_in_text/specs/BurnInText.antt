@@ -1,6 +1,7 @@
 -- Document 01, "Programs": what the program burn-in prints.
 -- Assumes nothing.
 use Prim.Native.Nat.{ℕ, zero, suc, _+_, _*_, _%_, _^_}
+use mathlib.Core.Bool.{Bool, true, false}
 use mathlib.Core.List.{List, [], _++_}
 use Rattle.layout_rules.specs.Matrix.{matrixRefusal}
 use Rattle.compile_rules.specs.Compile.{compiledBytes, compileAccepted}
@@ -26,28 +27,33 @@ outcomeText bytes =
       | zero ↦ checkedText (checkAnswer bytes (compiledBytes bytes)) (compileAccepted bytes .operations)
     ]
 
--- "seed S operations N", or "seed S refused N at P"; generate has room for the 8 by 8 record, so it refuses no seed
+-- "seed S operations N", or "seed S refused N at P"; generate has room for every record, so it refuses no 8 by 8 bank (`always-room` in
+-- generator/proofs/Answer)
 unfoldable pub burnInLine : ℕ → List ℕ
 burnInLine seed = ascii "seed " ++ number seed ++ ascii " " ++ outcomeText (generatedRecord 8 8 seed)
 
 -- ---- the run
 
--- the lines of so many seeds: 0, a step, twice the step, and so on, wrapping at 32 bits
+-- the lines of so many seeds: "k · 19088743, wrapping at 32 bits", or another number in its place
 unfoldable pub burnInLines : ℕ → ℕ → List ℕ
 burnInLines step zero = []
 burnInLines step (suc k) = burnInLines step k ++ burnInLine ((k * step) % 2 ^ 32)
 
--- "seeds 0 to 999" are those of step 1, and the spread ones those of step 19088743
+-- "seeds 0 to 999", or spread ones
+abbrev pub seedStep : Bool → ℕ
+seedStep false = 1
+seedStep true = 19088743
+
 abbrev pub seedCount : ℕ
 seedCount = 1000
 
-abbrev pub burnInText : ℕ → List ℕ
-burnInText step = burnInLines step seedCount
+abbrev pub burnInText : Bool → List ℕ
+burnInText spread = burnInLines (seedStep spread) seedCount
 
 -- bytes that hold every line: a number of 20 digits between `seed ` and a blank, and the line of a refusal
 abbrev pub longestBurnInLine : ℕ
 longestBurnInLine = 26 + longestRefusedLine
 
 -- nothing where the lent text is shorter than the longest text
-abbrev pub burnInTextIn : ℕ → ℕ → List ℕ
-burnInTextIn lent step = textIn (longestBurnInLine * seedCount) lent (burnInText step)
+abbrev pub burnInTextIn : ℕ → Bool → List ℕ
+burnInTextIn lent spread = textIn (longestBurnInLine * seedCount) lent (burnInText spread)

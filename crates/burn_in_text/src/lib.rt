@@ -1,15 +1,14 @@
 // Document 01, "Programs": the text of burn-in, a line for each of 1,000 generated banks. Rests on `generator`, `compile`, `netlist_check`
 // and `text`.
-use generator::RECORD_BYTES;
-use layout_records::places::ENOUGH_BYTES;
+use layout_matrix::LONGEST_RECORD;
+use layout_records::places::no_netlist;
 ghost use mathlib.Core.Path.{_≡_};
 ghost use Prim.Native.Nat.{_*_, _≤_};
 ghost use lib.ListN.{length};
-ghost use Rattle.layout_rules.specs.Matrix.{matrixLength};
-ghost use Rattle.layout_rules.specs.Places.{enoughBytes};
+ghost use Rattle.layout_rules.specs.Matrix.{longestRecord};
 ghost use Rattle.text.specs.Text.{longestRefusedLine};
 ghost use Rattle.text.specs.Wrote.{Wrote, PrefixLength};
-ghost use Rattle.burn_in_text.specs.BurnInText.{outcomeText, burnInLine, longestBurnInLine, burnInText, burnInTextIn, seedCount};
+ghost use Rattle.burn_in_text.specs.BurnInText.{outcomeText, burnInLine, longestBurnInLine, burnInLines, seedStep, seedCount, burnInTextIn};
 
 // "seeds 0 to 999".
 const SEED_COUNT: usize = 1000;
@@ -20,16 +19,10 @@ const LONGEST_LINE: usize = 26 + text::LONGEST_REFUSED_LINE;
 // The longest text.
 pub const ROOM: usize = LONGEST_LINE * SEED_COUNT;
 
-fn no_netlist() -> [u8; ENOUGH_BYTES]
-    ensures { λ r. ⌜ enoughBytes ≡ length r ⌝ }
+fn no_record() -> [u8; LONGEST_RECORD]
+    ensures { λ r. ⌜ longestRecord ≡ length r ⌝ }
 {
-    [0; ENOUGH_BYTES]
-}
-
-fn no_record() -> [u8; RECORD_BYTES]
-    ensures { λ r. ⌜ matrixLength 8 8 ≡ length r ⌝ }
-{
-    [0; RECORD_BYTES]
+    [0; LONGEST_RECORD]
 }
 
 // What compile and check say of a matrix record.
@@ -66,7 +59,7 @@ fn write_line(seed: u32, text: &mut [u8]) -> usize
 // The lines of all seeds, each the one before plus a step.
 fn write_lines(step: u32, text: &mut [u8]) -> usize
     requires { ⌜ longestBurnInLine * seedCount ≤ length (now text) ⌝ }
-    ensures { λ r. ⌜ Wrote (now (text .entry)) (now (text .exit)) r (burnInText step) ⌝ }
+    ensures { λ r. ⌜ Wrote (now (text .entry)) (now (text .exit)) r (burnInLines step seedCount) ⌝ }
 {
     let mut seed: u32 = 0;
     let mut at: usize = 0;
@@ -77,13 +70,20 @@ fn write_lines(step: u32, text: &mut [u8]) -> usize
     at
 }
 
+// By how much seeds go up.
+fn seed_step(spread: bool) -> u32
+    ensures { λ r. ⌜ r ≡ seedStep spread ⌝ }
+{
+    if spread { 19088743 } else { 1 }
+}
+
 // Writes the text at the start of the lent bytes and answers how long it is; nothing where they are too few.
-pub fn write_burn_in(step: u32, text: &mut [u8]) -> usize
-    ensures { λ r. ⌜ Wrote (now (text .entry)) (now (text .exit)) r (burnInTextIn (length (now (text .entry))) step) ⌝ }
+pub fn write_burn_in(spread: bool, text: &mut [u8]) -> usize
+    ensures { λ r. ⌜ Wrote (now (text .entry)) (now (text .exit)) r (burnInTextIn (length (now (text .entry))) spread) ⌝ }
     ensures { λ r. ⌜ PrefixLength r (now (text .exit)) ⌝ }
 {
     if text.len() < ROOM {
         return 0;
     }
-    write_lines(step, text)
+    write_lines(seed_step(spread), text)
 }

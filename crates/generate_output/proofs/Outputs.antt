@@ -6,18 +6,17 @@ use mathlib.Core.Bool.{Bool, true, false}
 use mathlib.Core.List.{List, _++_}
 use native.Mathlib.Omega.{arith}
 use lib.ListN.{length, getD, drop}
-use Rattle.limits.specs.Size.{SizeLimits, sizeOutside}
+use Rattle.limits.specs.Size.{sizeOutside}
 use Rattle.limits.proofs.Size.{size-within}
-use Rattle.layout_rules.specs.Bytes.{littleEndian}
-use Rattle.layout_rules.specs.Matrix.{matrixLength}
-use Rattle.layout_rules.proofs.MatrixBytes.{few-coefficients}
+use Rattle.layout_rules.specs.Matrix.{longestRecord}
+use Rattle.layout_rules.proofs.MatrixRecord.{record-fits}
 use Rattle.generator.specs.declared.GenerateAnswer.{GenerateAnswer}
 use Rattle.generator.specs.Generator.{generatedRecord, generateRefused, generateAccepted, generateAnswer, generateBuffer}
 use Rattle.generator.proofs.Answer.{size-refused, generate-accepted}
 use Rattle.text.specs.Text.{ascii, refusedLine}
 use Rattle.text.specs.Wrote.{Wrote}
 use Rattle.text.proofs.Wrote.{wrote-as}
-use Rattle.generate_output.specs.GenerateOutput.{generateOutput, longestRecord}
+use Rattle.generate_output.specs.GenerateOutput.{generateOutput}
 
 refused-output : (m n seed : ℕ) → sizeOutside m n ≡ true → refusedLine 4 0 ≡ generateOutput m n seed
 unfolding generateOutput
@@ -34,7 +33,7 @@ module _ (m n seed : ℕ) (old after : List ℕ) (answer : GenerateAnswer) (room
 
   inside : sizeOutside m n ≡ false → (answer ≡ generateAccepted m n seed) × (after ≡ generatedRecord m n seed ++ drop (length (generatedRecord m n seed)) old)
   inside e =
-      let both = generate-accepted m n seed old e (omega (arith, few-coefficients m n (size-within m n e))) in
+      let both = generate-accepted m n seed old e (omega (arith, record-fits m n (size-within m n e))) in
       (answered ∙ sym (both .0), left ∙ sym (both .1))
 
   -- the line of the refusal is written into a buffer that generate left as it was
@@ -47,8 +46,8 @@ module _ (m n seed : ℕ) (old after : List ℕ) (answer : GenerateAnswer) (room
           (ap (λ (a : GenerateAnswer). refusedLine (a .refusal) (a .place)) (is .0) ∙ refused-output m n seed e, is .1)
       go false e = absurd (no-zero (ap (λ (a : GenerateAnswer). a .refusal) (inside e .0)))
 
-  pub record-written : answer .refusal ≡ 0 → Wrote old after (answer .written) (generateOutput m n seed)
-  record-written is-zero = go (sizeOutside m n) refl
+  pub output-written : answer .refusal ≡ 0 → Wrote old after (answer .written) (generateOutput m n seed)
+  output-written is-zero = go (sizeOutside m n) refl
     where
       go : (t : Bool) → sizeOutside m n ≡ t → Wrote old after (answer .written) (generateOutput m n seed)
       go true e = absurd (omega (arith, ap (λ (a : GenerateAnswer). a .refusal) (outside e .0)))

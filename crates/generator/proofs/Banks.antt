@@ -2,7 +2,7 @@
 -- Assumes nothing.
 use Prim.Native.Nat.{ℕ, zero, suc, _+_, _-_, _/_, _%_, _^_, _≤_}
 use mathlib.Core.Path.{_≡_, refl, sym, ap, ap₂, _∙_}
-use mathlib.Core.Bool.{Bool, true, false, _&&_, true≢false}
+use mathlib.Core.Bool.{Bool, true, _&&_}
 use mathlib.Core.List.{List, [], _∷_, flatMap}
 use native.Mathlib.Nat.{zero-add}
 use native.Mathlib.Omega.{arith}
@@ -10,23 +10,23 @@ use lib.Bits.{bitXor}
 use lib.Dec.{leb}
 use lib.IntN.{pos, negsuc}
 use lib.ListN.{getD}
-use borrow.Author.Tests.{leb-true}
-use Rattle.layout_rules.specs.Matrix.{matrix, rowsFrom, coefficientsFrom, coefficientAt, signedWord, matrixBytes}
+use Rattle.layout_rules.specs.Matrix.{matrix, rowsFrom, coefficientsFrom, coefficientAt, signedWord, matrixRecord}
+use Rattle.netlist_rules.proofs.Conditions.{and-says, at-most-says}
 use Rattle.generator.specs.Generator.{grown, upperHalf, generatedWords, generatedRecord}
 use Rattle.generator.proofs.States.{upper-half-is}
 
 -- ---- by computation
 
-first-of-zero : matrix (generatedRecord 1 3 0) ≡ (negsuc 25033 ∷ pos 15470 ∷ negsuc 9560 ∷ []) ∷ []
+pub first-of-zero : matrix (generatedRecord 1 3 0) ≡ (negsuc 25033 ∷ pos 15470 ∷ negsuc 9560 ∷ []) ∷ []
 unfolding matrix rowsFrom coefficientsFrom coefficientAt signedWord generatedRecord generatedWords grown upperHalf flatMap
 first-of-zero = refl
 
 -- hexadecimal 01234567, by which spread seeds go up
-first-of-spread : matrix (generatedRecord 1 3 19088743) ≡ (negsuc 24740 ∷ pos 15762 ∷ negsuc 9271 ∷ []) ∷ []
+pub first-of-spread : matrix (generatedRecord 1 3 19088743) ≡ (negsuc 24740 ∷ pos 15762 ∷ negsuc 9271 ∷ []) ∷ []
 unfolding matrix rowsFrom coefficientsFrom coefficientAt signedWord generatedRecord generatedWords grown upperHalf flatMap
 first-of-spread = refl
 
-zero-and-one : generatedRecord 8 8 0 ≡ generatedRecord 8 8 1
+pub zero-and-one : generatedRecord 8 8 0 ≡ generatedRecord 8 8 1
 unfolding generatedRecord generatedWords grown upperHalf flatMap
 zero-and-one = refl
 
@@ -43,23 +43,20 @@ unfoldable noCarry : ℕ → ℕ → ℕ → Bool
 noCarry more state zero = true
 noCarry more state (suc k) = leb (grown state % 2 ^ 16 + more) 65535 && noCarry more (grown state) k
 
-both-true : (p q : Bool) → (p && q) ≡ true → (p ≡ true) × (q ≡ true)
-both-true true q e = (refl, e)
-both-true false q e = absurd (true≢false (sym e))
-
 same-words : (more d state k : ℕ) → d ≤ more → noCarry more state k ≡ true → generatedWords (state + d) k ≡ generatedWords state k
 unfolding generatedWords grown noCarry
 same-words more d state zero h e = refl
 same-words more d state (suc k) h e =
-    let both = both-true (leb (grown state % 2 ^ 16 + more) 65535) (noCarry more (grown state) k) e in
-    let room = leb-true (grown state % 2 ^ 16 + more) 65535 (both .0) in
+    let low = grown state % 2 ^ 16 + more in
+    let both = and-says (leb low 65535) (noCarry more (grown state) k) (at-most-says low 65535) (λ t. t, λ t. t) .0 e in
+    let room : low ≤ 65535 = both .0 in
     let next : grown (state + d) ≡ grown state + d = omega (arith, room) in
     let upper : grown (state + d) / 2 ^ 16 ≡ grown state / 2 ^ 16 = omega (arith, room, next) in
     ap₂ _∷_ (upper-half-same (grown (state + d)) (grown state) upper) (ap (λ (s : ℕ). generatedWords s k) next ∙ same-words more d (grown state) k h (both .1))
 
 same-bank : (more d seed : ℕ) → d ≤ more → noCarry more seed 64 ≡ true → generatedRecord 8 8 (seed + d) ≡ generatedRecord 8 8 seed
 unfolding generatedRecord
-same-bank more d seed h e = ap (matrixBytes 8 8) (same-words more d seed 64 h e)
+same-bank more d seed h e = ap (matrixRecord 8 8) (same-words more d seed 64 h e)
 
 -- the seeds 0 to 978 give one bank
 pub first-bank : (seed : ℕ) → seed ≤ 978 → generatedRecord 8 8 seed ≡ generatedRecord 8 8 0

@@ -2,12 +2,12 @@
 -- Assumes nothing.
 use Prim.Native.Nat.{ℕ, zero, suc, _+_, _*_, _-_, _/_, _%_, _^_, _≤_, _<_}
 use mathlib.Core.Path.{_≡_, refl, sym, ap, ap₂, _∙_, subst}
-use mathlib.Core.List.{List, _∷_}
 use native.Mathlib.Omega.{arith}
 use lib.Bits.{bitXor, differ, xor-step, xor-zero-r, xor-shr, xor-lt}
 use lib.ListN.{length, getD}
 use lib.Pow.{shr-shr}
-use Rattle.generator.specs.Generator.{growth, grown, upperHalf, generatedWords}
+use Rattle.generator.specs.Generator.{grown, upperHalf, generatedWords}
+use Rattle.generator.specs.States.{stateAfter}
 
 -- ---- what a state gives
 
@@ -35,19 +35,15 @@ high-state state l h =
     turned (suc zero) h = refl
     turned (suc (suc x)) h = absurd (omega arith)
 
-pub upper-half-below : (state : ℕ) → state < 2 ^ 32 → upperHalf state < 2 ^ 16
+upper-half-below : (state : ℕ) → state < 2 ^ 32 → upperHalf state < 2 ^ 16
 upper-half-below state h =
     subst (λ (x : ℕ). x < 2 ^ 16) (sym (upper-half-is state)) (xor-lt 16 (state / 2 ^ 16) (state / 2 ^ 31) (omega arith) (omega arith))
 
-pub grown-below : (state : ℕ) → grown state < 2 ^ 32
+grown-below : (state : ℕ) → grown state < 2 ^ 32
 unfolding grown
 grown-below state = omega arith
 
 -- ---- the states
-
--- the state after so many coefficients
-abbrev pub stateAfter : ℕ → ℕ → ℕ
-stateAfter seed k = (seed + k * growth) % 2 ^ 32
 
 pub length-generated : (state k : ℕ) → length (generatedWords state k) ≡ k
 unfolding generatedWords

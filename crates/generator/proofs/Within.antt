@@ -12,20 +12,20 @@ use Rattle.limits.specs.Limits.{sampleWidth}
 use Rattle.limits.specs.Size.{SizeLimits}
 use Rattle.limits.proofs.Size.{size-inside}
 use Rattle.layout_rules.specs.Matrix.{rows, columns, matrix, matrixRefusal, signedWord}
-use Rattle.layout_rules.specs.Places.{enoughBytes}
 use Rattle.layout_rules.proofs.LittleEndian.{AreBytes}
-use Rattle.layout_rules.proofs.MatrixBytes.{matrix-bytes, matrix-bytes-accepted, matrix-coefficient}
+use Rattle.layout_rules.proofs.MatrixRecord.{matrix-record-bytes, matrix-record-accepted, matrix-coefficient}
 use Rattle.layout_rules.proofs.MatrixRows.{matrix-at}
 use Rattle.board_rules.specs.Width.{Samples}
 use Rattle.compile_rules.specs.Compile.{compiledBytes, compileAccepted, compileAnswer, compileBuffer}
-use Rattle.compile_rules.proofs.Compiled.{enough-room}
+use Rattle.compile_rules.proofs.Compiled.{answer-accepted}
 use Rattle.netlist_rules.specs.Check.{checked, checkAnswer}
 use Rattle.bank_rules.specs.Claim.{MatrixWithinLimits, Claim, answersOf, outputsAfter}
 use Rattle.bank_rules.proofs.Claim.{within-limits, compiled-checked, claim-holds}
 use Rattle.generator.specs.declared.GenerateAnswer.{GenerateAnswer}
 use Rattle.generator.specs.Generator.{upperHalf, generatedWords, generatedRecord, generateAccepted, generateAnswer, generateBuffer}
-use Rattle.generator.proofs.States.{stateAfter, length-generated, generated-at, generated-below}
+use Rattle.generator.specs.States.{stateAfter}
 use Rattle.generator.specs.Tests.{generateTests}
+use Rattle.generator.proofs.States.{length-generated, generated-at, generated-below}
 use Rattle.generator.proofs.Answer.{generated-length, generate-accepted}
 use Rattle.generator.proofs.GenerateTests.{generate-passes}
 
@@ -55,19 +55,19 @@ module _ (m n seed : ℕ) where
       ∙ ap signedWord (generated-at seed (m * n) (i * n + j) among)
 
   module _ (limits : SizeLimits m n) where
-    pub generated-bytes : AreBytes record-bytes
+    generated-bytes : AreBytes record-bytes
     unfolding generatedRecord
-    generated-bytes = matrix-bytes m n words (length-generated seed (m * n)) limits (generated-below seed (m * n))
+    generated-bytes = matrix-record-bytes m n words (length-generated seed (m * n)) limits (generated-below seed (m * n))
 
     pub generated-accepted : matrixRefusal record-bytes ≡ 0
     unfolding generatedRecord
-    generated-accepted = matrix-bytes-accepted m n words (length-generated seed (m * n)) limits
+    generated-accepted = matrix-record-accepted m n words (length-generated seed (m * n)) limits
 
     pub generated-within : MatrixWithinLimits record-bytes
     generated-within = within-limits record-bytes generated-bytes generated-accepted
 
-    pub generated-compiles : (room : ℕ) → enoughBytes ≤ room → compileAnswer record-bytes room ≡ compileAccepted record-bytes
-    generated-compiles room = enough-room record-bytes generated-bytes room generated-accepted
+    pub generated-compiles : (room : ℕ) → length (compiledBytes record-bytes) ≤ room → compileAnswer record-bytes room ≡ compileAccepted record-bytes
+    generated-compiles room = answer-accepted record-bytes room generated-accepted
 
     pub generated-checked : checkAnswer record-bytes (compiledBytes record-bytes) ≡ checked 0 0
     generated-checked = compiled-checked record-bytes generated-within
@@ -99,5 +99,5 @@ module _ (m n seed : ℕ) (buffer : List ℕ) (accepts : generateAnswer m n seed
       ap₂ (λ (a : GenerateAnswer) (l : List ℕ). take (a .written) l) accepts (sym (both .1))
       ∙ take-append-seam (generatedRecord m n seed) (drop (length (generatedRecord m n seed)) buffer)
 
-  pub accepted-within : MatrixWithinLimits (take (generateAnswer m n seed (length buffer) .written) (generateBuffer m n seed buffer))
-  accepted-within = subst MatrixWithinLimits (sym accepted-record) (generated-within m n seed accepted-limits)
+  pub accepted-record-within : MatrixWithinLimits (take (generateAnswer m n seed (length buffer) .written) (generateBuffer m n seed buffer))
+  accepted-record-within = subst MatrixWithinLimits (sym accepted-record) (generated-within m n seed accepted-limits)

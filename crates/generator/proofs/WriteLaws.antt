@@ -17,8 +17,8 @@ use Rattle.generator.specs.Generator.{grown, upperHalf, generatedWords, 
 use Rattle.generator.proofs.States.{length-generated}
 
 -- the coefficients from an index on, at their place
-abbrev pub filled : List ℕ → ℕ → ℕ → ℕ → List ℕ
-filled buffer state count index = written buffer (coefficientPlace index) (flatMap littleEndian (generatedWords state (count - index)))
+abbrev pub withCoefficients : List ℕ → ℕ → ℕ → ℕ → List ℕ
+withCoefficients buffer state count index = written buffer (coefficientPlace index) (flatMap littleEndian (generatedWords state (count - index)))
 
 -- one coefficient
 module _ (buffer after : List ℕ) (state count index : ℕ) (more : index < count) (room : coefficientPlace count ≤ length buffer)
@@ -26,7 +26,7 @@ module _ (buffer after : List ℕ) (state count index : ℕ) (more : index < cou
   pub coefficient-length : length after ≡ length buffer
   coefficient-length = record-length littleEndian 2 (λ x. refl) buffer after (coefficientPlace index) (upperHalf (grown state)) (omega arith) written-one
 
-  pub coefficient-next : filled after (grown state) count (index + 1) ≡ filled buffer state count index
+  pub coefficient-next : withCoefficients after (grown state) count (index + 1) ≡ withCoefficients buffer state count index
   unfolding generatedWords
   coefficient-next =
       let left : count - index ≡ suc (count - (index + 1)) = omega arith in
@@ -35,7 +35,7 @@ module _ (buffer after : List ℕ) (state count index : ℕ) (more : index < cou
       ∙ ap (λ (k : ℕ). written buffer (coefficientPlace index) (flatMap littleEndian (generatedWords state k))) (sym left)
 
 -- at the end none is left
-pub coefficients-end : (buffer : List ℕ) (state count index : ℕ) → count ≤ index → buffer ≡ filled buffer state count index
+pub coefficients-end : (buffer : List ℕ) (state count index : ℕ) → count ≤ index → buffer ≡ withCoefficients buffer state count index
 unfolding generatedWords
 coefficients-end buffer state count index h =
     let none : count - index ≡ 0 = omega arith in

@@ -7,7 +7,7 @@ use lib.Bits.{bitXor}
 use lib.Dec.{ltb}
 use lib.ListN.{length, drop}
 use Rattle.limits.specs.Size.{sizeOutside}
-use Rattle.layout_rules.specs.Matrix.{matrixBytes}
+use Rattle.layout_rules.specs.Matrix.{matrixRecord}
 use Rattle.generator.specs.declared.GenerateAnswer.{GenerateAnswer}
 
 -- ---- the record
@@ -24,14 +24,15 @@ grown state = (state + growth) % 2 ^ 32
 unfoldable pub upperHalf : ℕ → ℕ
 upperHalf state = bitXor state (state / 2 ^ 15) / 2 ^ 16
 
--- "For each coefficient in the record's order the state grows", and then gives it: the numbers of so many coefficients' bytes, from a state on
+-- "For each coefficient in the record's order the state grows", and then gives it: the numbers of so many coefficients' bytes, from a
+-- state on
 unfoldable pub generatedWords : ℕ → ℕ → List ℕ
 generatedWords state zero = []
 generatedWords state (suc k) = upperHalf (grown state) ∷ generatedWords (grown state) k
 
 -- "The state starts as the seed."
 unfoldable pub generatedRecord : ℕ → ℕ → ℕ → List ℕ
-generatedRecord m n seed = matrixBytes m n (generatedWords seed (m * n))
+generatedRecord m n seed = matrixRecord m n (generatedWords seed (m * n))
 
 -- ---- generate's answer
 

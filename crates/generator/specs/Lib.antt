@@ -1,2 +1,3 @@
 pub mod Generator
+pub mod States
 pub mod Tests

@@ -1,5 +1,5 @@
--- Document 01, "Why a record was declined": the tests of generate in their order, each with the number and the place that are returned where
--- it is the first that fails. Nothing here computes an answer; generate is held to this list.
+-- Document 01, "Why a record was declined": the tests of generate in their order, each with the number and the place that are returned
+-- where it is the first that fails. Nothing here computes an answer; generate is held to this list.
 -- Assumes nothing.
 use Prim.Native.Nat.{ℕ, _≤_}
 use mathlib.Core.List.{List, [], _∷_}

@@ -1,10 +1,8 @@
-// Document 01, "Generated banks": generate, from m, n and a seed to a matrix record, refusals 4 and 6. Rests on `limits` and
-// `layout_matrix`.
+// Document 01, "Generated banks": generate, from m, n and a seed to a matrix record, refusals 4 and 6. Rests on `limits`,
+// `layout_records` and `layout_matrix`, and for its laws on `bank_rules`.
 use layout_matrix::coefficient_place;
 use layout_matrix::write_matrix_head;
 use layout_records::little_endian::write_word;
-use limits::MAX_COLUMNS;
-use limits::MAX_ROWS;
 ghost use mathlib.Core.Path.{_≡_};
 ghost use mathlib.Core.List.{flatMap};
 ghost use Prim.Native.Nat.{_≤_};
@@ -33,9 +31,6 @@ impl GenerateAnswer {
         }
     }
 }
-
-// So many bytes suffice for every record.
-pub const RECORD_BYTES: usize = 6 + 2 * MAX_ROWS * MAX_COLUMNS;
 
 // "hexadecimal 9E3779B9".
 const GROWTH: u32 = 0x9E37_79B9;

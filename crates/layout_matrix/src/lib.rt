@@ -1,5 +1,7 @@
 // Document 01, "Matrix record" and "Why a record was declined": the matrix record, as `layout_rules` has it.
 use layout_records::little_endian::word_at;
+use limits::MAX_COLUMNS;
+use limits::MAX_ROWS;
 ghost use mathlib.Core.Path.{_≡_};
 ghost use mathlib.Core.List.{_++_};
 ghost use Prim.Native.Nat.{_+_, _^_, _≤_, _<_};
@@ -8,7 +10,10 @@ ghost use Rattle.limits.specs.Size.{SizeLimits};
 ghost use Rattle.layout_rules.specs.Matrix.{matrixRefusal, coefficientAt, coefficientPlace, signedWord};
 ghost use Rattle.layout_matrix.specs.Head.{matrixHead};
 
-pub const MATRIX_KIND: u16 = 1;
+const MATRIX_KIND: u16 = 1;
+
+// "134 bytes always suffice."
+pub const LONGEST_RECORD: usize = 6 + 2 * MAX_ROWS * MAX_COLUMNS;
 
 // The coefficients stand behind n, 2 bytes each.
 pub fn coefficient_place(index: usize) -> usize

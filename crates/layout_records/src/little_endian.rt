@@ -1,6 +1,6 @@
 // Little-endian numbers in lent bytes.
 ghost use mathlib.Core.Path.{_≡_};
-ghost use Prim.Native.Nat.{_+_, _*_, _<_};
+ghost use Prim.Native.Nat.{_+_, _*_, _<_, _≤_};
 ghost use lib.ListN.{length};
 ghost use Rattle.layout_rules.specs.Bytes.{littleEndian, word};
 ghost use Rattle.layout_rules.specs.Written.{written};
@@ -13,6 +13,16 @@ pub fn word_at(bytes: &[u8], place: usize) -> u16
     let low = bytes[place] as u16;
     let high = bytes[place + 1] as u16;
     low + 256 * high
+}
+
+// The number whose four bytes stand at a place.
+pub fn double_word_at(bytes: &[u8], place: usize) -> u32
+    requires { ⌜ place + 4 ≤ length (now bytes) ⌝ }
+    ensures { λ r. ⌜ r ≡ word (now (bytes .entry)) place + 65536 * word (now (bytes .entry)) (place + 2) ⌝ }
+{
+    let low = word_at(bytes, place) as u32;
+    let high = word_at(bytes, place + 2) as u32;
+    low + 65536 * high
 }
 
 // The two bytes of a number, written at a place; what stands before and behind them stays as it was.

@@ -4,7 +4,8 @@ use limits::MAX_OPERATIONS;
 use limits::MAX_ROWS;
 ghost use mathlib.Core.Path.{_≡_};
 ghost use Prim.Native.Nat.{_<_};
-ghost use Rattle.layout_rules.specs.Places.{operationPlace, outputPlace, netlistLength};
+ghost use lib.ListN.{length};
+ghost use Rattle.layout_rules.specs.Places.{enoughBytes, operationPlace, outputPlace, netlistLength};
 
 pub const HEAD_KIND: u16 = 2;
 
@@ -27,6 +28,13 @@ pub const ENOUGH_BYTES: usize = HEAD_LENGTH
     + OPERATION_LENGTH * MAX_OPERATIONS
     + OUTPUT_LENGTH * MAX_ROWS
     + TOTALS_LENGTH;
+
+// Room for every netlist.
+pub fn no_netlist() -> [u8; ENOUGH_BYTES]
+    ensures { λ r. ⌜ enoughBytes ≡ length r ⌝ }
+{
+    [0; ENOUGH_BYTES]
+}
 
 pub fn operation_place(head: usize, k: usize) -> usize
     requires { ⌜ (head < 65536) × (k < 65536) ⌝ }

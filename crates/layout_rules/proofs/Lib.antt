@@ -12,4 +12,4 @@ pub mod FirstRecords
 pub mod InBytes
 pub mod TestLaws
 pub mod MatrixTests
-pub mod MatrixBytes
+pub mod MatrixRecord

@@ -32,7 +32,7 @@ written-nothing buffer place = rw add-zero (take-append-drop place buffer)
 pub length-written : (buffer : List ℕ) (place : ℕ) (bytes : List ℕ) → place + length bytes ≤ length buffer → length (written buffer place bytes) ≡ length buffer
 length-written buffer place bytes h = simp (length-append, length-take, length-drop) (omega arith)
 
-pub written-byte : (buffer : List ℕ) (place x : ℕ) → place < length buffer → set buffer place x ≡ written buffer place (x ∷ [])
+written-byte : (buffer : List ℕ) (place x : ℕ) → place < length buffer → set buffer place x ≡ written buffer place (x ∷ [])
 written-byte buffer place x h = rw add-one (set-split buffer place x h)
 
 -- one record after another

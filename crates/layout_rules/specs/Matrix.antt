@@ -6,6 +6,7 @@ use mathlib.Core.List.{List, [], _∷_, flatMap}
 use lib.Dec.{ltb, eqb}
 use lib.IntN.{ℤ, pos, _-ℤ_}
 use lib.ListN.{length, getD}
+use Rattle.limits.specs.Limits.{maxRows, maxColumns}
 use Rattle.limits.specs.Size.{sizeOutside}
 use Rattle.layout_rules.specs.Bytes.{littleEndian, word, recordBytes}
 
@@ -13,10 +14,10 @@ use Rattle.layout_rules.specs.Bytes.{littleEndian, word, recordBytes}
 abbrev pub matrixKind : ℕ
 matrixKind = 1
 
--- "m (1 byte), n (1 byte), each 1 to 8, then m times n coefficients row by row, 2 bytes each, little-endian two's complement": the record of
--- m, n and the numbers that the coefficients' bytes give
-abbrev pub matrixBytes : ℕ → ℕ → List ℕ → List ℕ
-matrixBytes m n words = recordBytes matrixKind (m ∷ n ∷ flatMap littleEndian words)
+-- "m (1 byte), n (1 byte), each 1 to 8, then m times n coefficients row by row, 2 bytes each, little-endian two's complement": the
+-- record of m, n and the numbers that the coefficients' bytes give
+abbrev pub matrixRecord : ℕ → ℕ → List ℕ → List ℕ
+matrixRecord m n words = recordBytes matrixKind (m ∷ n ∷ flatMap littleEndian words)
 
 -- m and n, 1 byte each, after length and kind
 abbrev pub rows : List ℕ → ℕ
@@ -32,6 +33,10 @@ coefficientPlace index = 6 + 2 * index
 -- "Length 6 + 2 times m times n"
 abbrev pub matrixLength : ℕ → ℕ → ℕ
 matrixLength m n = coefficientPlace (m * n)
+
+-- "134 bytes always suffice."
+abbrev pub longestRecord : ℕ
+longestRecord = matrixLength maxRows maxColumns
 
 -- the first of the refusals 1 to 5 that applies, 0 for none
 unfoldable pub matrixRefusal : List ℕ → ℕ

@@ -1,4 +1,4 @@
-//! The bank compiler of document 01 in plain Rust, written from its text alone.
+//! The bank compiler of document 01 in plain Rust, written from its text.
 //!
 //! It is the other side of every comparison with the verified library: tests hold the two answers against each other, and
 //! the benchmark takes it as its base. The calls have the shape of the verified library's wrappers, and a buffer that

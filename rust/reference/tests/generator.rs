@@ -42,6 +42,14 @@ fn neighbouring_seeds_give_equal_banks() {
     assert_ne!(record(8, 8, 979), record(8, 8, 0));
 }
 
+/// 225 steps of the spread seeds come to 2^32 − 121, so seeds 225 apart are near again.
+#[test]
+fn spread_seeds_give_some_equal_banks() {
+    let seeds = (0..1000).map(|k: u32| k.wrapping_mul(19_088_743));
+    let banks: HashSet<Vec<u8>> = seeds.map(|seed| record(8, 8, seed)).collect();
+    assert_eq!(banks.len(), 315);
+}
+
 #[test]
 fn refusals() {
     let refused = |number| Err(Refusal { number, place: 0 });

@@ -54,12 +54,12 @@ fn buffers_of_every_length() {
     both.assert_generate(&[0, 4, 6], 5_000);
 }
 
-/// Small seeds, those near 2^32, and spread ones.
+/// Small seeds, those near 2^32, and random ones.
 fn seeds(random: &mut Random) -> BTreeSet<u32> {
     let small = 0..20_000;
     let high = small.clone().map(|seed| u32::MAX - seed);
-    let spread = (0..100_000).map(|_| random.number() as u32);
-    small.chain(high).chain(spread).collect()
+    let others = (0..100_000).map(|_| random.number() as u32);
+    small.chain(high).chain(others).collect()
 }
 
 #[test]

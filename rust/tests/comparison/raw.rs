@@ -151,7 +151,9 @@ fn numbers_of_generate() {
             )
         };
         met.count(number);
-        let expected = reference::generate(m, n, seed, &mut vec![0; room]);
+        let mut contents = vec![0; room];
+        let expected = reference::generate(m, n, seed, &mut contents);
+        assert_eq!(buffer, contents);
         assert_eq!((number, place), returned(&expected));
         assert_eq!(written, expected.unwrap_or(0));
     });

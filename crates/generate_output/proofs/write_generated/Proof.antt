@@ -3,8 +3,9 @@ use mathlib.Core.Path.{ap}
 use native.Mathlib.Omega.{arith}
 use lib.ListN.{getD}
 use borrow.Author.Needs.{needs}
+use Rattle.layout_rules.specs.Matrix.{longestRecord}
 use Rattle.text.proofs.Wrote.{wrote-as, wrote-none, wrote-whole}
-use Rattle.generate_output.specs.GenerateOutput.{generateOutput, longestRecord}
+use Rattle.generate_output.specs.GenerateOutput.{generateOutput}
 use Rattle.generate_output.proofs.write_generated.Statement.{statement}
 use Rattle.generate_output.proofs.write_generated.Tie as tie
 

@@ -7,7 +7,7 @@ use Rattle.text.specs.Text.{refusedLine}
 use Rattle.text.specs.Wrote.{Wrote}
 use Rattle.text.proofs.Wrote.{wrote-as}
 use Rattle.generate_output.specs.GenerateOutput.{generateOutput}
-use Rattle.generate_output.proofs.Outputs.{line-refused, record-written}
+use Rattle.generate_output.proofs.Outputs.{line-refused, output-written}
 use Rattle.generate_output.proofs.write_record.Statement.{statement}
 use Rattle.generate_output.proofs.write_record.Tie as tie
 
@@ -23,7 +23,7 @@ module _ (c : tie.After-generate) where
 
   accepted : c .generate .result .refusal ≡ 0
       → Wrote (s .args .output .now) (c .generate .last .1 .1 .1 .0) (c .generate .result .written) (generateOutput (s .args .m) (s .args .n) (s .args .seed))
-  accepted = record-written (s .args .m) (s .args .n) (s .args .seed) _ _ (c .generate .result) (s .pre) (c .generate .ensures .0) (c .generate .ensures .1)
+  accepted = output-written (s .args .m) (s .args .n) (s .args .seed) _ _ (c .generate .result) (s .pre) (c .generate .ensures .0) (c .generate .ensures .1)
 
 generate-requires : tie.Need-generate-requires
 generate-requires c κs = search needs

@@ -1,16 +1,15 @@
 -- `generator::generate` meets its contract. Assumes nothing.
-use Prim.Native.Nat.{ℕ, _*_, _≤_, _<_}
+use Prim.Native.Nat.{ℕ, _*_, _≤_}
 use mathlib.Core.Path.{_≡_, sym, ap, _∙_}
 use mathlib.Core.Bool.{false}
 use native.Mathlib.Omega.{arith}
 use borrow.Author.Needs.{needs}
 use lib.ListN.{length}
-use Rattle.limits.specs.Limits.{maxRows, maxColumns}
 use Rattle.limits.specs.Size.{SizeLimits, sizeOutside}
 use Rattle.limits.proofs.Size.{size-within}
-use Rattle.layout_rules.specs.Matrix.{matrixLength}
-use Rattle.layout_rules.proofs.MatrixBytes.{few-coefficients}
-use Rattle.generator.proofs.Answer.{generated-length, size-refused, room-refused, generate-accepted}
+use Rattle.layout_rules.specs.Matrix.{matrixLength, longestRecord}
+use Rattle.layout_rules.proofs.MatrixRecord.{record-fits}
+use Rattle.generator.proofs.Answer.{generated-length, size-refused, short-refused, generate-accepted}
 use Rattle.generator.proofs.WriteLaws.{record-written}
 use Rattle.generator.proofs.generate.Statement.{statement}
 use Rattle.generator.proofs.generate.Tie as tie
@@ -41,8 +40,8 @@ module _ (c : tie.Else1) where
   limits : SizeLimits m n
   limits = size-within m n inside
 
-  few : m * n ≤ maxRows * maxColumns
-  few = few-coefficients m n limits
+  few : matrixLength m n ≤ longestRecord
+  few = record-fits m n limits
 
 mul-count : tie.Need-mul-count
 mul-count c = omega (arith, few c)
@@ -57,7 +56,7 @@ returns-2 : tie.Need-returns-2
 returns-2 c =
     let e = c .before .before .before in
     let s = e .before .before .before in
-    let both = room-refused (s .args .m) (s .args .n) (s .args .seed) (s .args .buffer .now) (inside e) (omega (arith, c .before .before .coefficient-place .ensures, c .before .if2 .taken)) in
+    let both = short-refused (s .args .m) (s .args .n) (s .args .seed) (s .args .buffer .now) (inside e) (omega (arith, c .before .before .coefficient-place .ensures, c .before .if2 .taken)) in
     (c .refused2 .ensures ∙ both .0, both .1)
 
 write-matrix-head-requires : tie.Need-write-matrix-head-requires

@@ -9,13 +9,13 @@ use Rattle.layout_rules.specs.Bytes.{littleEndian}
 use Rattle.layout_rules.specs.Matrix.{coefficientPlace}
 use Rattle.layout_rules.specs.Written.{written}
 use Rattle.generator.specs.Generator.{upperHalf, generatedWords}
-use Rattle.generator.proofs.WriteLaws.{filled, coefficient-length, coefficient-next, coefficients-end}
+use Rattle.generator.proofs.WriteLaws.{withCoefficients, coefficient-length, coefficient-next, coefficients-end}
 use Rattle.generator.proofs.write_coefficients.Statement.{statement}
 use Rattle.generator.proofs.write_coefficients.Tie as tie
 
 abbrev Inv-loop : tie.InvT-loop
 Inv-loop count seed buffer₀ state₀ index₀ buffer state index =
-    (index ≤ count) × (length buffer ≡ length buffer₀) × (filled buffer state count index ≡ filled buffer₀ seed count 0)
+    (index ≤ count) × (length buffer ≡ length buffer₀) × (withCoefficients buffer state count index ≡ withCoefficients buffer₀ seed count 0)
 
 abbrev μ-loop : tie.MeasureT-loop
 μ-loop count seed buffer₀ state₀ index₀ buffer state index = count - index
@@ -54,7 +54,7 @@ loop-again c =
     let room : coefficientPlace (s .args .count) ≤ length (l .loop .buffer) = omega (arith, s .pre, l .loop .inv .1) in (
       omega arith,
       coefficient-length (l .loop .buffer) after (l .loop .state) (s .args .count) (l .loop .index) (omega arith) room one ∙ l .loop .inv .1,
-      ap (λ (x : ℕ). filled after x (s .args .count) (l .loop .index + 1)) grows
+      ap (λ (x : ℕ). withCoefficients after x (s .args .count) (l .loop .index + 1)) grows
           ∙ coefficient-next (l .loop .buffer) after (l .loop .state) (s .args .count) (l .loop .index) (omega arith) room one
           ∙ l .loop .inv .2,
     )

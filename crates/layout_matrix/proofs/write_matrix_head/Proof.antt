@@ -1,18 +1,18 @@
 -- `layout_matrix::write_matrix_head` meets its contract. Assumes nothing.
-use Prim.Native.Nat.{ℕ, _*_, _≤_}
+use Prim.Native.Nat.{ℕ, _≤_}
 use mathlib.Core.Path.{ap, _∙_}
 use mathlib.Core.List.{List, _++_}
 use native.Mathlib.Omega.{arith}
 use lib.ListN.{drop}
 use borrow.Author.Needs.{needs}
-use Rattle.limits.specs.Limits.{maxRows, maxColumns}
-use Rattle.layout_rules.proofs.MatrixBytes.{few-coefficients}
-use Rattle.layout_matrix.proofs.HeadLaws.{head-bytes}
+use Rattle.layout_rules.specs.Matrix.{matrixLength, longestRecord}
+use Rattle.layout_rules.proofs.MatrixRecord.{record-fits}
+use Rattle.layout_matrix.proofs.HeadLaws.{matrix-head-bytes}
 use Rattle.layout_matrix.proofs.write_matrix_head.Statement.{statement}
 use Rattle.layout_matrix.proofs.write_matrix_head.Tie as tie
 
-few : (c : tie.Start) → c .args .m * c .args .n ≤ maxRows * maxColumns
-few c = few-coefficients (c .args .m) (c .args .n) (c .pre .0)
+few : (c : tie.Start) → matrixLength (c .args .m) (c .args .n) ≤ longestRecord
+few c = record-fits (c .args .m) (c .args .n) (c .pre .0)
 
 mul-coefficient-place : tie.Need-mul-coefficient-place
 mul-coefficient-place c = omega (arith, few (c .before))
@@ -40,7 +40,7 @@ returns c =
     let s = c .before .before .before .before .before .before .before in
     let size = c .before .before .before .before .before .coefficient-place in
     c .before .before .copy .ensures .1
-    ∙ ap (λ (head : List ℕ). head ++ drop 6 (s .args .buffer .now)) (head-bytes (s .args .m) (s .args .n) (size .result) (s .pre .0) (size .ensures))
+    ∙ ap (λ (head : List ℕ). head ++ drop 6 (s .args .buffer .now)) (matrix-head-bytes (s .args .m) (s .args .n) (size .result) (s .pre .0) (size .ensures))
 
 pub write-matrix-head-spec : {M : Type 1} → statement M
 write-matrix-head-spec =
