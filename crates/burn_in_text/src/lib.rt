@@ -51,7 +51,7 @@ fn write_line(seed: u32, text: &mut [u8]) -> usize
     ensures { λ r. ⌜ r ≤ longestBurnInLine ⌝ }
 {
     let mut record = no_record();
-    generator::generate(8, 8, seed, &mut record);
+    generator::generate(8, 8, seed, &mut record); // its room is the record's, so it refuses none and fills all of it
     let at = text::write_between(b"seed ", seed as usize, b" ", text);
     at + write_outcome(&record, &mut text[at..])
 }

@@ -1,11 +1,11 @@
 -- Document 01, "Programs": what the program generate-bank writes for m, n and a seed.
 -- Assumes nothing.
-use Prim.Native.Nat.{ℕ, _+_, _*_}
+use Prim.Native.Nat.{ℕ}
 use mathlib.Core.Bool.{true, false}
 use mathlib.Core.List.{List}
 use lib.ListN.{getD}
 use Rattle.limits.specs.Size.{sizeOutside}
-use Rattle.layout_rules.specs.Bytes.{word}
+use Rattle.layout_rules.specs.Bytes.{doubleWord}
 use Rattle.layout_rules.specs.Matrix.{longestRecord}
 use Rattle.generator.specs.Generator.{generatedRecord}
 use Rattle.text.specs.Text.{refusedLine}
@@ -17,7 +17,7 @@ generateOutput m n seed = elim (sizeOutside m n) [ true ↦ refusedLine 4 0 | fa
 
 -- the input: m, n (1 byte each), the seed (4 bytes, little-endian); a byte that is missing counts as 0
 abbrev pub inputOutput : List ℕ → List ℕ
-inputOutput input = generateOutput (getD input 0 0) (getD input 1 0) (word input 2 + 65536 * word input 4)
+inputOutput input = generateOutput (getD input 0 0) (getD input 1 0) (doubleWord input 2)
 
 -- nothing where fewer bytes are lent than suffice for every record
 abbrev pub generateOutputIn : ℕ → List ℕ → List ℕ

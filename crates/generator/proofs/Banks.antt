@@ -38,7 +38,7 @@ upper-half-same x y e =
     let highest : x / 2 ^ 31 ≡ y / 2 ^ 31 = omega arith in
     upper-half-is x ∙ ap₂ bitXor e highest ∙ sym (upper-half-is y)
 
--- so much can be added to a state, and no sum of so many carries into the upper half
+-- so much added to a state carries into the upper half in none of the next k states
 unfoldable noCarry : ℕ → ℕ → ℕ → Bool
 noCarry more state zero = true
 noCarry more state (suc k) = leb (grown state % 2 ^ 16 + more) 65535 && noCarry more (grown state) k

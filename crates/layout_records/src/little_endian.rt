@@ -1,8 +1,8 @@
 // Little-endian numbers in lent bytes.
 ghost use mathlib.Core.Path.{_≡_};
-ghost use Prim.Native.Nat.{_+_, _*_, _<_, _≤_};
+ghost use Prim.Native.Nat.{_+_, _<_, _≤_};
 ghost use lib.ListN.{length};
-ghost use Rattle.layout_rules.specs.Bytes.{littleEndian, word};
+ghost use Rattle.layout_rules.specs.Bytes.{littleEndian, word, doubleWord};
 ghost use Rattle.layout_rules.specs.Written.{written};
 
 // The number whose two bytes stand at a place.
@@ -18,7 +18,7 @@ pub fn word_at(bytes: &[u8], place: usize) -> u16
 // The number whose four bytes stand at a place.
 pub fn double_word_at(bytes: &[u8], place: usize) -> u32
     requires { ⌜ place + 4 ≤ length (now bytes) ⌝ }
-    ensures { λ r. ⌜ r ≡ word (now (bytes .entry)) place + 65536 * word (now (bytes .entry)) (place + 2) ⌝ }
+    ensures { λ r. ⌜ r ≡ doubleWord (now (bytes .entry)) place ⌝ }
 {
     let low = word_at(bytes, place) as u32;
     let high = word_at(bytes, place + 2) as u32;
