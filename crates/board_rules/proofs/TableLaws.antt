@@ -1,7 +1,7 @@
 -- Tables: a row that is written holds what was written and leaves the others, so that the coefficients, values and depths in a table
 -- are the netlist's after each operation.
 -- Assumes nothing.
-use Prim.Native.Nat.{ℕ, zero, suc, _+_, _*_, _≤_, _<_}
+use Prim.Native.Nat.{ℕ, zero, suc, _+_, _*_, _≤_, _<_, max}
 use mathlib.Core.Path.{_≡_, refl, sym, ap, ap₂, _∙_}
 use mathlib.Core.List.{List, [], _∷_, _++_}
 use native.Mathlib.Omega.{arith}
@@ -13,10 +13,10 @@ use Rattle.limits.specs.Limits.{maxColumns, maxSymbols}
 use Rattle.layout_rules.specs.declared.Operation.{Operation}
 use Rattle.layout_rules.specs.declared.Output.{Output}
 use Rattle.board_rules.specs.Machine.{entryAt, operationValue, machine, operationDepth, depths, outputValue, unit, entryForm, outputForm}
-use Rattle.board_rules.specs.Table.{formsLength, filled, tableCoefficient, row, operationCoefficient, operationRow, outputRow, formAppended, unitRowsFrom, formsStarted, HoldsForms, valueAppended}
+use Rattle.board_rules.specs.Table.{formsLength, filled, tableCoefficient, row, operationCoefficient, operationRow, outputRow, formAppended, unitRowsFrom, formsStarted, HoldsForms, valueAppended, HoldsDepths}
 use Rattle.board_rules.proofs.MachineLaws.{machine-snoc, machine-keeps-after, machine-last, operation-same}
 use Rattle.board_rules.proofs.FormLaws.{length-unit, unit-other, entry-columns, output-columns, length-columns, columns-at, columns-same}
-use Rattle.board_rules.proofs.DepthLaws.{depths-snoc}
+use Rattle.board_rules.proofs.DepthLaws.{depths-snoc, depths-at-most}
 
 -- ---- tables that were just made
 
@@ -175,7 +175,7 @@ module _ (n : ℕ) (os : List Operation) (table : List ℤ) (H : HoldsForms n os
                 let z : 0 + j ≡ j = omega arith in
                 rw z (sym (rw (length-unit n j) at (machine-last (unit n j) os o)))
 
--- ---- values and depths
+-- ---- values
 
 -- what stands in the front of a table
 pub front-at : {A : Type 0} (d : A) (table : List A) {front : List A} (k : ℕ) → take k table ≡ front → (i : ℕ) → i < k → getD table i d ≡ getD front i d
@@ -190,11 +190,33 @@ value-appended xs os o values k e l ha hb =
     ∙ ap₂ (λ (v : List ℤ) (z : ℤ). v ++ (z ∷ [])) e (operation-same values (machine xs os) o (front-at (pos 0) values k e (o .a) ha) (front-at (pos 0) values k e (o .b) hb))
     ∙ sym (machine-snoc xs os o)
 
--- and so for depths
-pub depth-appended : (ds : List ℕ) (os : List Operation) (o : Operation) (table : List ℕ) (k : ℕ)
-    → take k table ≡ depths ds os → k < length table → o .a < k → o .b < k
-    → take (suc k) (set table k (operationDepth table o)) ≡ depths ds (os ++ (o ∷ []))
-depth-appended ds os o table k e l ha hb =
-    take-suc-set table k (operationDepth table o) l
-    ∙ ap₂ (λ (v : List ℕ) (z : ℕ). v ++ (z ∷ [])) e (rw (front-at 0 table k e (o .a) ha, front-at 0 table k e (o .b) hb) refl)
-    ∙ sym (depths-snoc ds os o)
+-- ---- depths: before the first operation, and with each one more
+
+pub depths-started : (n : ℕ) (table : List ℕ) → n ≤ maxSymbols → table ≡ filled maxSymbols 0 → HoldsDepths n [] table
+unfolding depths
+depths-started n table h e =
+    let none : n + 0 ≡ n = omega arith in
+    record { room = ap length e ∙ length-filled 0 maxSymbols; held = rw (none, e) (take-filled 0 n maxSymbols h) }
+
+module _ (n : ℕ) (os : List Operation) (table : List ℕ) (H : HoldsDepths n os table) where
+  pub depth-at : (symbol : ℕ) → symbol < n + length os → getD table symbol 0 ≡ getD (depths (replicate n 0) os) symbol 0
+  depth-at = front-at 0 table (n + length os) (H .held)
+
+  pub depth-small : (symbol : ℕ) → symbol < n + length os → getD table symbol 0 ≤ length os
+  depth-small symbol h = omega (arith, depth-at symbol h, depths-at-most n os symbol)
+
+  module _ (o : Operation) (ha : o .a < n + length os) (hb : o .b < n + length os) where
+    pub operation-depth-at : operationDepth table o ≡ operationDepth (depths (replicate n 0) os) o
+    operation-depth-at = ap₂ (λ (x y : ℕ). suc (max x y)) (depth-at (o .a) ha) (depth-at (o .b) hb)
+
+    pub depths-appended : n + length os < maxSymbols → HoldsDepths n (os ++ (o ∷ [])) (set table (n + length os) (operationDepth table o))
+    depths-appended h =
+        let next : n + length (os ++ (o ∷ [])) ≡ suc (n + length os) = omega (arith, length-append os (o ∷ [])) in
+        record {
+          room = length-set table (n + length os) (operationDepth table o) ∙ H .room;
+          held =
+              ap (λ (k : ℕ). take k (set table (n + length os) (operationDepth table o))) next
+              ∙ take-suc-set table (n + length os) (operationDepth table o) (omega (arith, H .room))
+              ∙ ap₂ (λ (v : List ℕ) (d : ℕ). v ++ (d ∷ [])) (H .held) operation-depth-at
+              ∙ sym (depths-snoc (replicate n 0) os o);
+        }

@@ -5,12 +5,12 @@ use Prim.Native.Nat.{ℕ, zero, suc, _+_, _*_, _-_, _^_, _<_}
 use mathlib.Core.Path.{_≡_}
 use mathlib.Core.List.{List, [], _∷_}
 use lib.IntN.{ℤ, pos, natAbs}
-use lib.ListN.{length, getD, set, replicate}
+use lib.ListN.{length, getD, set, take, replicate}
 use lib.Seq.{sets}
 use Rattle.limits.specs.Limits.{maxColumns, maxSymbols}
 use Rattle.layout_rules.specs.declared.Operation.{Operation}
 use Rattle.layout_rules.specs.declared.Output.{Output}
-use Rattle.board_rules.specs.Machine.{entryAt, shifted, joined, withSign, operationValue, unit, machine}
+use Rattle.board_rules.specs.Machine.{entryAt, shifted, joined, withSign, operationValue, machine, depths, unit}
 use Rattle.board_rules.specs.Width.{positives, negatives}
 
 -- a table of k places that all hold x
@@ -68,6 +68,11 @@ pub record HoldsForms (n : ℕ) (os : List Operation) (table : List ℤ) : Type 
 
 abbrev pub valueAppended : List ℤ → Operation → ℕ → List ℤ
 valueAppended values o symbol = set values symbol (operationValue values o)
+
+-- the table holds the depths of the entries after the operations os
+pub record HoldsDepths (n : ℕ) (os : List Operation) (table : List ℕ) : Type 0 where
+  pub room : length table ≡ maxSymbols
+  pub held : take (n + length os) table ≡ depths (replicate n 0) os
 
 -- ---- what 64 bits hold
 

@@ -5,7 +5,7 @@ use mathlib.Core.Path.{_≡_, refl, sym, ap, ap₂, _∙_, subst}
 use mathlib.Core.List.{List, [], _∷_, _++_, flatMap, map, append-assoc}
 use native.Mathlib.Omega.{arith}
 use lib.IntN.{ℤ, pos}
-use lib.ListN.{length, getD, take, drop, set, replicate, take-append-drop, drop-of-length-le, length-append, length-map, length-drop}
+use lib.ListN.{length, getD, take, drop, set, take-append-drop, drop-of-length-le, length-append, length-map, length-drop}
 use lib.Seq.{drop-cons, take-suc, length-take-le}
 use Rattle.limits.specs.Limits.{maxColumns, sampleWidth, maxShift, maxSymbols, maxCompiledWidth}
 use Rattle.layout_rules.specs.declared.Operation.{Operation}
@@ -16,12 +16,12 @@ use Rattle.layout_rules.specs.Written.{written}
 use borrow.Rule.Slice.PartMut.{putMid}
 use Rattle.layout_rules.proofs.Written.{written-part, written-start, written-after, length-written, part-next, records-none}
 use Rattle.layout_rules.proofs.Lengths.{length-head, length-operation, length-output, length-totals, length-records}
-use Rattle.board_rules.specs.Machine.{entryForm, operationDepth, depths, depth}
+use Rattle.board_rules.specs.Machine.{entryForm, operationDepth, depth}
 use Rattle.board_rules.specs.Width.{width}
-use Rattle.board_rules.specs.Table.{filled, formsLength, tableCoefficient, row, operationCoefficient, operationRow, formAppended, HoldsForms, SmallForms, SmallRange}
+use Rattle.board_rules.specs.Table.{formsLength, tableCoefficient, row, operationCoefficient, operationRow, formAppended, HoldsForms, HoldsDepths, SmallForms, SmallRange}
 use Rattle.board_rules.proofs.FormLaws.{columns-at, columns-same, length-columns, entry-form-keeps}
-use Rattle.board_rules.proofs.TableLaws.{take-filled, sets-inside, operation-row-is, output-row-is, appended-holds, front-at, depth-appended}
-use Rattle.board_rules.proofs.DepthLaws.{depth-snoc, depths-at-most}
+use Rattle.board_rules.proofs.TableLaws.{sets-inside, operation-row-is, output-row-is, appended-holds, depth-small, operation-depth-at, depths-appended}
+use Rattle.board_rules.proofs.DepthLaws.{depth-snoc}
 use Rattle.board_rules.proofs.BoundLaws.{compiled-shifted, forms-small, appended-range-small, output-row-range-small}
 use Rattle.compile_lists.specs.Lists.{noOperation, noOutput}
 use Rattle.compile_rules.specs.Compile.{withWidth, withWidths, outputWithWidth}
@@ -153,33 +153,33 @@ module _ (n : ℕ) (os : List Operation) where
 
   -- ---- depths
 
-  module _ (w : Writable compiledLimits n os) (table : List ℕ) (k : ℕ) (h : k < length os) (size : length table ≡ maxSymbols) (e : take (n + k) table ≡ depths (replicate n 0) (take k os)) where
+  module _ (w : Writable compiledLimits n os) (table : List ℕ) (k : ℕ) (h : k < length os) (H : HoldsDepths n (take k os) table) where
     up-to-next : take k os ++ (getD os k noOperation ∷ []) ≡ take (suc k) os
     up-to-next = sym (take-suc os k noOperation h)
 
-    pub depth-small : (symbol : ℕ) → symbol < n + k → getD table symbol 0 < 65535
-    depth-small symbol l =
-        omega (arith, front-at 0 table (n + k) e symbol l, depths-at-most n (take k os) symbol, length-take-le k os (omega arith), w .few)
+    written-before : length (take k os) ≡ k
+    written-before = length-take-le k os (omega arith)
 
-    pub depths-next : take (n + suc k) (set table (n + k) (operationDepth table (getD os k noOperation))) ≡ depths (replicate n 0) (take (suc k) os)
+    pub earlier-depth : (symbol : ℕ) → symbol < n + k → getD table symbol 0 < 65535
+    earlier-depth symbol l = omega (arith, written-before, depth-small n (take k os) table H symbol (omega (arith, written-before)), w .few)
+
+    first : getD os k noOperation .a < n + length (take k os)
+    first = omega (arith, written-before, w .operation k h .first-earlier)
+
+    second : getD os k noOperation .b < n + length (take k os)
+    second = omega (arith, written-before, w .operation k h .second-earlier)
+
+    pub depths-next : HoldsDepths n (take (suc k) os) (set table (n + k) (operationDepth table (getD os k noOperation)))
     depths-next =
-        let symbol : n + suc k ≡ suc (n + k) = omega arith in
-        ap (λ (j : ℕ). take j (set table (n + k) (operationDepth table (getD os k noOperation)))) symbol
-        ∙ depth-appended (replicate n 0) (take k os) (getD os k noOperation) table (n + k) e (omega (arith, w .few, w .inputs)) (w .operation k h .first-earlier) (w .operation k h .second-earlier)
-        ∙ ap (depths (replicate n 0)) up-to-next
+        let o : Operation = getD os k noOperation in
+        rw (← up-to-next)
+        (subst (λ (j : ℕ). HoldsDepths n (take k os ++ (o ∷ [])) (set table (n + j) (operationDepth table o))) written-before
+        (depths-appended n (take k os) table H o first second (omega (arith, written-before, w .few, w .inputs))))
 
     pub depth-next : max (depth n (take k os)) (operationDepth table (getD os k noOperation)) ≡ depth n (take (suc k) os)
     depth-next =
         let o : Operation = getD os k noOperation in
-        let first = front-at 0 table (n + k) e (o .a) (w .operation k h .first-earlier) in
-        let second = front-at 0 table (n + k) e (o .b) (w .operation k h .second-earlier) in
-        ap (max (depth n (take k os))) (ap₂ (λ (x y : ℕ). suc (max x y)) first second)
-        ∙ sym (depth-snoc n (take k os) o)
-        ∙ ap (depth n) up-to-next
-
-pub depths-start : (n size : ℕ) → n ≤ size → take (n + 0) (filled size 0) ≡ depths (replicate n 0) []
-unfolding depths
-depths-start n size h = let none : n + 0 ≡ n = omega arith in ap (λ (k : ℕ). take k (filled {A = ℕ} size 0)) none ∙ take-filled 0 n size h
+        ap (max (depth n (take k os))) (operation-depth-at n (take k os) table H o first second) ∙ sym (depth-snoc n (take k os) o) ∙ ap (depth n) up-to-next
 
 -- ---- outputs
 

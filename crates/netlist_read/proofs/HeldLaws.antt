@@ -6,20 +6,21 @@ use mathlib.Core.List.{List, [], _∷_, _++_}
 use native.Mathlib.Omega.{arith}
 use native.Mathlib.Decide.{decLt}
 use lib.IntN.{ℤ}
-use lib.ListN.{length, getD, set, take, replicate, length-append, length-set}
-use lib.Seq.{getD-take, take-suc}
+use lib.ListN.{length, getD, set, take, length-append}
+use lib.Seq.{take-suc}
 use Rattle.limits.specs.Limits.{maxColumns, maxShift, sampleWidth, maxOperations, maxWidth, maxSymbols}
 use Rattle.layout_rules.specs.declared.Operation.{Operation}
 use Rattle.layout_rules.specs.declared.Output.{Output}
 use Rattle.layout_rules.specs.Places.{operationAt, firstRecords, firstOperations}
 use Rattle.layout_rules.proofs.FirstRecords.{length-first}
-use Rattle.board_rules.specs.Machine.{entryForm, outputForm, operationDepth, depths, largest, depth}
+use Rattle.board_rules.specs.Machine.{entryForm, outputForm, operationDepth, largest, depth}
 use Rattle.board_rules.specs.Width.{width}
 use Rattle.board_rules.specs.Table.{filled, Small, tableCoefficient, row, outputRow, formAppended, formsStarted, HoldsForms, SmallForms, SmallRange, formsLength}
 use Rattle.board_rules.specs.Netlist.{OperationLimits, OutputOperand}
 use Rattle.board_rules.proofs.FormLaws.{entry-form-keeps}
-use Rattle.board_rules.proofs.DepthLaws.{depths-at-most, largest-snoc}
-use Rattle.board_rules.proofs.TableLaws.{length-filled, take-filled, started-holds, row-is, output-row-is, appended-holds, depth-appended}
+use Rattle.board_rules.proofs.DepthLaws.{largest-snoc}
+use Rattle.board_rules.proofs.TableLaws.{started-holds, row-is, output-row-is, appended-holds, depth-small}
+use Rattle.board_rules.proofs.TableLaws as tables
 use Rattle.board_rules.proofs.BoundLaws.{sample-width, widest-shifted, forms-small, appended-range-small, output-row-range-small}
 use Rattle.netlist_rules.specs.Read.{operationWidth, outputWidth}
 use Rattle.netlist_rules.specs.Exact.{readLimits}
@@ -36,10 +37,8 @@ module _ (b : List ℕ) (n : ℕ) (l : n ≤ maxColumns) where
   }
 
   pub depths-started : (table : List ℕ) → table ≡ filled maxSymbols 0 → DepthsHeld b n 0 table
-  unfolding firstRecords depths
-  depths-started table e =
-      let z : n + 0 ≡ n = omega arith in
-      record { room = ap length e ∙ length-filled 0 maxSymbols; held = rw (z, e) (take-filled 0 n maxSymbols (omega arith)) }
+  unfolding firstRecords
+  depths-started table e = tables.depths-started n table (omega arith) e
 
 -- ---- coefficients
 
@@ -111,28 +110,29 @@ module _ (b : List ℕ) (n k : ℕ) (forms : List ℤ) (H : FormsHeld b n k form
 -- ---- depths
 
 module _ (b : List ℕ) (n k : ℕ) (table : List ℕ) (D : DepthsHeld b n k table) where
-  depth-small : (symbol : ℕ) → symbol < n + k → getD table symbol 0 ≤ k
-  depth-small symbol h =
-      let e : getD table symbol 0 ≡ getD (depths (replicate n 0) (firstOperations b k)) symbol 0 = sym (getD-take (n + k) table symbol 0 h) ∙ ap (λ v. getD v symbol 0) (D .held) in
-      omega (arith, e, depths-at-most n (firstOperations b k) symbol, length-first (operationAt b) k)
+  abbrev operations : List Operation
+  operations = firstOperations b k
+
+  made : length (firstOperations b k) ≡ k
+  made = length-first (operationAt b) k
 
   pub depth-asked : (o : Operation) → OperationLimits readLimits (n + k) o → k < maxOperations → (getD table (o .a) 0 < 65535) × (getD table (o .b) 0 < 65535)
-  depth-asked o L m = (omega (arith, depth-small (o .a) (L .first-earlier)), omega (arith, depth-small (o .b) (L .second-earlier)))
+  depth-asked o L m = (
+    omega (arith, made, depth-small n operations table D (o .a) (omega (arith, made, L .first-earlier))),
+    omega (arith, made, depth-small n operations table D (o .b) (omega (arith, made, L .second-earlier))),
+  )
 
   pub depths-appended : OperationLimits readLimits (n + k) (operationAt b k) → n ≤ maxColumns → k < maxOperations
       → DepthsHeld b n (suc k) (set table (n + k) (operationDepth table (operationAt b k)))
   unfolding firstRecords
   depths-appended L l m =
       let o = operationAt b k in
-      let e : n + suc k ≡ suc (n + k) = omega arith in record {
-        room = length-set table (n + k) (operationDepth table o) ∙ D .room;
-        held = rw e (depth-appended (replicate n 0) (firstOperations b k) o table (n + k) (D .held) (omega (arith, D .room)) (L .first-earlier) (L .second-earlier));
-      }
+      rw made at (tables.depths-appended n operations table D o (omega (arith, made, L .first-earlier)) (omega (arith, made, L .second-earlier)) (omega (arith, made)))
 
   -- the largest of them is the netlist's
   pub depth-held : largest (take (n + k) table) ≡ depth n (firstOperations b k)
   unfolding depth
-  depth-held = ap largest (D .held)
+  depth-held = ap (λ (j : ℕ). largest (take (n + j) table)) (sym made) ∙ ap largest (D .held)
 
 pub largest-none : (l : List ℕ) → 0 ≡ largest (take 0 l)
 unfolding largest

@@ -4,14 +4,14 @@ use Prim.Native.Nat.{ℕ, suc, _+_, _≤_, _<_}
 use mathlib.Core.Path.{_≡_}
 use mathlib.Core.List.{List}
 use lib.IntN.{ℤ}
-use lib.ListN.{length, take, replicate}
-use Rattle.limits.specs.Limits.{sampleWidth, maxWidth, maxSymbols}
+use lib.ListN.{length}
+use Rattle.limits.specs.Limits.{sampleWidth, maxWidth}
 use Rattle.layout_rules.specs.declared.Head.{Head}
 use Rattle.layout_rules.specs.declared.Operation.{Operation}
 use Rattle.layout_rules.specs.Places.{headAt, firstOperations, firstOutputs, operationsIn, outputsIn, totalsPlaceIn, netlistIn}
-use Rattle.board_rules.specs.Machine.{entryForm, depths}
+use Rattle.board_rules.specs.Machine.{entryForm}
 use Rattle.board_rules.specs.Width.{width}
-use Rattle.board_rules.specs.Table.{HoldsForms}
+use Rattle.board_rules.specs.Table.{HoldsForms, HoldsDepths}
 use Rattle.netlist_read.specs.declared.Refusal.{Refusal}
 use Rattle.netlist_rules.specs.Read.{Reading, refused, accepted, headRefusal, operationRefusal, totalsRefusal, readOperations, readOutputs, readNetlist}
 
@@ -21,9 +21,8 @@ pub record FormsHeld (bytes : List ℕ) (n k : ℕ) (forms : List ℤ) : Type 0 
   pub narrow : (symbol : ℕ) → symbol < n + k → width sampleWidth (entryForm n (firstOperations bytes k) symbol) ≤ maxWidth
 
 -- the depths of these entries
-pub record DepthsHeld (bytes : List ℕ) (n k : ℕ) (table : List ℕ) : Type 0 where
-  pub room : length table ≡ maxSymbols
-  pub held : take (n + k) table ≡ depths (replicate n 0) (firstOperations bytes k)
+abbrev pub DepthsHeld : List ℕ → ℕ → ℕ → List ℕ → Type 0
+DepthsHeld bytes n k table = HoldsDepths n (firstOperations bytes k) table
 
 -- the refusal and the place of what was read, 0 at place 0 where it is accepted
 abbrev pub refusalOf : {A : Type 0} → Reading A → Refusal

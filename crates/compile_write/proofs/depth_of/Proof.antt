@@ -1,28 +1,28 @@
 -- `compile_write::depth_of` meets its contract. Assumes nothing.
 use borrow.Author.Needs.{needs}
 use native.Mathlib.Omega.{arith}
-use Prim.Native.Nat.{ℕ, suc, _+_, _-_, _≤_, _<_, max}
+use Prim.Native.Nat.{ℕ, _+_, _-_, _≤_, _<_, max}
 use mathlib.Core.Path.{_≡_, sym, ap, ap₂, subst, _∙_}
 use mathlib.Core.List.{List}
 use native.Mathlib.Numerals.{add-one}
-use lib.ListN.{length, getD, take, set, replicate, length-set}
+use lib.ListN.{length, getD, take}
 use lib.Seq.{take-all}
 use Rattle.limits.specs.Limits.{maxSymbols}
 use Rattle.layout_rules.specs.declared.Operation.{Operation}
-use Rattle.board_rules.specs.Machine.{depths, depth, operationDepth}
+use Rattle.board_rules.specs.Machine.{depth, operationDepth}
+use Rattle.board_rules.specs.Table.{HoldsDepths}
 use Rattle.board_rules.proofs.DepthLaws.{depth-none}
-use Rattle.board_rules.proofs.TableLaws.{length-filled}
+use Rattle.board_rules.proofs.TableLaws.{depths-started}
 use Rattle.compile_lists.specs.Lists.{operationsList, noOperation}
 use Rattle.compile_rules.specs.Compiled.{compiledLimits}
 use Rattle.compile_write.specs.Tables.{Writable}
-use Rattle.compile_write.proofs.WriteLaws.{depths-start, depth-small, depths-next, depth-next}
+use Rattle.compile_write.proofs.WriteLaws.{earlier-depth, depths-next, depth-next}
 use Rattle.compile_write.proofs.depth_of.Statement.{statement}
 use Rattle.compile_write.proofs.depth_of.Tie as tie
 
 abbrev Inv-loop : tie.InvT-loop
 Inv-loop operations n count table₀ largest₀ k₀ table largest k =
-    (k ≤ count) × (length table ≡ maxSymbols) × (take (n + k) table ≡ depths (replicate n 0) (take k (operationsList operations)))
-    × (largest ≡ depth n (take k (operationsList operations)))
+    (k ≤ count) × HoldsDepths n (take k (operationsList operations)) table × (largest ≡ depth n (take k (operationsList operations)))
 
 abbrev μ-loop : tie.MeasureT-loop
 μ-loop operations n count table₀ largest₀ k₀ table largest k = count - k
@@ -37,8 +37,7 @@ loop-holds : tie.Need-loop-holds Inv-loop μ-loop
 loop-holds c =
     let s = c .before .before in
     let n = s .args .n in
-    let few : n ≤ maxSymbols = omega (arith, s .pre .inputs) in
-    (omega arith, ap length (c .blank-depths .ensures) ∙ length-filled 0 maxSymbols, ap (take (n + 0)) (c .blank-depths .ensures) ∙ depths-start n maxSymbols few, sym (depth-none n))
+    (omega arith, depths-started n _ (omega (arith, s .pre .inputs)) (c .blank-depths .ensures), sym (depth-none n))
 
 -- what is asked of the operations
 module _ (c : tie.In-loop Inv-loop μ-loop) where
@@ -58,7 +57,7 @@ module _ (c : tie.In-loop Inv-loop μ-loop) where
   symbol-below = omega (arith, inside, writable .few, writable .inputs)
 
   earlier : (symbol : ℕ) → symbol < s .args .n + c .before .loop .k → getD (c .before .loop .depths) symbol 0 < 65535
-  earlier symbol l = depth-small (s .args .n) os writable (c .before .loop .depths) (c .before .loop .k) inside (c .before .loop .inv .1) (c .before .loop .inv .2) symbol l
+  earlier = earlier-depth (s .args .n) os writable (c .before .loop .depths) (c .before .loop .k) inside (c .before .loop .inv .1)
 
 operation-requires : tie.Need-operation-requires Inv-loop μ-loop
 operation-requires c κs = inside (c .before)
@@ -105,16 +104,15 @@ loop-again c =
     let e : d .operation-depth .result ≡ operationDepth table (getD (os g) k noOperation) = d .operation-depth .ensures ∙ ap (operationDepth table) (o .operation .ensures) in
     rw (add-one k) (
       omega (arith, g .loop-test .taken),
-      length-set table (n + k) (d .operation-depth .result) ∙ L .loop .inv .1,
-      ap (λ (x : ℕ). take (n + suc k) (set table (n + k) x)) e ∙ depths-next n (os g) w table k (inside g) (L .loop .inv .1) (L .loop .inv .2),
-      c .deeper .ensures ∙ ap₂ max (L .loop .inv .3) e ∙ depth-next n (os g) w table k (inside g) (L .loop .inv .1) (L .loop .inv .2),
+      rw e (depths-next n (os g) w table k (inside g) (L .loop .inv .1)),
+      c .deeper .ensures ∙ ap₂ max (L .loop .inv .2) e ∙ depth-next n (os g) w table k (inside g) (L .loop .inv .1),
     )
 
 returns : tie.Need-returns Inv-loop μ-loop
 returns c =
     let L = c .before in
     let s = L .before .before .before in
-    L .loop .inv .3 ∙ ap (depth (s .args .n)) (take-all (L .loop .k) (operationsList (s .args .operations)) (omega arith))
+    L .loop .inv .2 ∙ ap (depth (s .args .n)) (take-all (L .loop .k) (operationsList (s .args .operations)) (omega arith))
 
 pub depth-of-spec : {M : Type 1} → statement M
 depth-of-spec =
