@@ -14,7 +14,7 @@ use Rattle.limits.proofs.Size.{size-inside}
 use Rattle.elimination_rules.specs.declared.Divisor.{Divisor}
 use Rattle.elimination_rules.specs.Rows.{Row, matrixRows}
 use Rattle.elimination_rules.specs.Divisors.{Pair, occurrences}
-use Rattle.elimination_rules.specs.Elimination.{smallestFirst, matrixElimination}
+use Rattle.elimination_rules.specs.Elimination.{shallowestFirst, matrixElimination}
 use Rattle.elimination_rules.specs.Steps.{Steps}
 use Rattle.elimination_rules.proofs.RowOrder.{rowAt, occurrence}
 use Rattle.elimination_rules.proofs.Elimination.{steps-of, remaining-overlap}
@@ -115,7 +115,7 @@ module _ (matrixBytes : List ℕ) (w : MatrixWithinLimits matrixBytes) where
   -- document 01's elimination of the matrix
   steps : let e = eliminationOf matrixBytes in Steps (columns matrixBytes) (matrixRows positions (matrix matrixBytes)) (e .divisors) (e .replacements) (e .remainingRows)
   unfolding matrixElimination
-  steps = steps-of smallestFirst positions (columns matrixBytes) (matrix matrixBytes)
+  steps = steps-of (shallowestFirst (columns matrixBytes)) positions (columns matrixBytes) (matrix matrixBytes)
 
   all-overlap : (d : Divisor) (i j : ℕ) (p q : Pair)
       → List·Memᴰ p (occurrences d (rowAt (eliminationOf matrixBytes .remainingRows) i))
@@ -123,7 +123,7 @@ module _ (matrixBytes : List ℕ) (w : MatrixWithinLimits matrixBytes) where
   unfolding matrixElimination
   all-overlap d i j p q first second =
       let remaining : List Row = eliminationOf matrixBytes .remainingRows in
-      remaining-overlap smallestFirst positions (columns matrixBytes) (matrix matrixBytes)
+      remaining-overlap (shallowestFirst (columns matrixBytes)) positions (columns matrixBytes) (matrix matrixBytes)
       (rows-columns positions (columns matrixBytes) (matrix matrixBytes) (accepted-within matrixBytes (w .are-bytes) refusal .coefficients))
       d i j p q (occurrence d (rowAt remaining i) p first) (occurrence d (rowAt remaining j) q second)
 

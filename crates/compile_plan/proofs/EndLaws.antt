@@ -4,69 +4,79 @@ use Prim.Native.Nat.{ℕ, suc, _+_, _*_, _≤_, _<_}
 use mathlib.Core.Path.{_≡_, refl, sym, ap, ap₂, _∙_}
 use mathlib.Core.List.{List, [], _∷_, _++_, map, append-assoc, append-nil, map-append}
 use native.Mathlib.Omega.{arith}
-use lib.ListN.{length, length-append, length-map}
-use Rattle.limits.specs.Limits.{maxColumns, maxOperations, termSymbols}
+use lib.ListN.{length, getD, set, replicate, length-append, length-map}
+use Rattle.limits.specs.Limits.{maxColumns, positions, maxOperations, termSymbols, maxSymbols}
 use Rattle.elimination_rules.specs.declared.Divisor.{Divisor}
 use Rattle.elimination_rules.specs.Rows.{Row, plainCount}
-use Rattle.elimination_rules.specs.Elimination.{Scored, before, pick, rowsAfter, smallestFirst, Eliminated, eliminate, elimination}
+use Rattle.elimination_rules.specs.Divisors.{score}
+use Rattle.elimination_rules.specs.Elimination.{symbolDepths, shallower, shallowestFirst, Scored, pick, rowsAfter, Eliminated, eliminate, elimination}
+use Rattle.elimination_rules.proofs.Order.{DivisorWithin, divisor-within}
 use Rattle.elimination_rules.proofs.Counts.{plain-after}
 use Rattle.elimination_rules.proofs.Pick.{pick-score}
+use Rattle.elimination_rules.proofs.Rank.{pick-by-depths}
 use Rattle.elimination_rules.proofs.End.{from-ends, from-goes-on}
 use Rattle.elimination_rows.specs.State.{Ready}
 use Rattle.elimination_rows.proofs.Ready.{ready-below, ready-after}
 use Rattle.layout_rules.specs.declared.Operation.{Operation}
+use Rattle.board_rules.specs.Machine.{operationDepth, depths}
+use Rattle.board_rules.specs.Table.{filled, HoldsDepths}
+use Rattle.board_rules.proofs.TableLaws.{depths-started, depth-at, depth-small, depths-appended}
 use Rattle.compile_rules.specs.Chains.{divisorOperation}
+use Rattle.compile_rules.proofs.Depths.{symbol-depths}
 
 -- what is left to do, and what it comes to with what was done
-abbrev restOf : ℕ → List Divisor → List Row → Eliminated
-restOf symbol made rows = eliminate smallestFirst (plainCount rows) symbol made rows
+abbrev restOf : ℕ → ℕ → List Divisor → List Row → Eliminated
+restOf n symbol made rows = eliminate (shallowestFirst n) (plainCount rows) symbol made rows
 
 abbrev withRest : List Divisor → ℕ → Eliminated → Eliminated
 withRest made k e = record { divisors = made ++ e .divisors; replacements = k + e .replacements; remainingRows = e .remainingRows }
 
-rest-start : (n : ℕ) (rows : List Row) → withRest [] 0 (restOf n [] rows) ≡ elimination smallestFirst n rows
+rest-start : (n : ℕ) (rows : List Row) → withRest [] 0 (restOf n n [] rows) ≡ elimination (shallowestFirst n) n rows
 unfolding elimination
 rest-start n rows =
-    let e : Eliminated = restOf n [] rows in
+    let e : Eliminated = restOf n n [] rows in
     ap (λ (k : ℕ). record { divisors = e .divisors; replacements = k; remainingRows = e .remainingRows }) (omega arith)
 
-module _ (symbol : ℕ) (made : List Divisor) (k : ℕ) (rows : List Row) where
+module _ (n symbol : ℕ) (made : List Divisor) (k : ℕ) (rows : List Row) where
   abbrev best : Scored
-  best = pick before rows
+  best = pick (shallowestFirst n made) rows
 
-  rest-ends : best .score < 2 → record { divisors = made; replacements = k; remainingRows = rows } ≡ withRest made k (restOf symbol made rows)
+  rest-ends : best .score < 2 → record { divisors = made; replacements = k; remainingRows = rows } ≡ withRest made k (restOf n symbol made rows)
   rest-ends h =
       let none : k ≡ k + 0 = omega arith in
       ap₂ (λ (ds : List Divisor) (j : ℕ). record { divisors = ds; replacements = j; remainingRows = rows }) (sym (append-nil made)) none
-      ∙ ap (withRest made k) (sym (from-ends smallestFirst symbol made rows h))
+      ∙ ap (withRest made k) (sym (from-ends (shallowestFirst n) symbol made rows h))
 
   rest-goes-on : 2 ≤ best .score
-      → withRest (made ++ (best .divisor ∷ [])) (k + best .score) (restOf (suc symbol) (made ++ (best .divisor ∷ [])) (rowsAfter symbol (best .divisor) rows))
-      ≡ withRest made k (restOf symbol made rows)
+      → withRest (made ++ (best .divisor ∷ [])) (k + best .score) (restOf n (suc symbol) (made ++ (best .divisor ∷ [])) (rowsAfter symbol (best .divisor) rows))
+      ≡ withRest made k (restOf n symbol made rows)
   rest-goes-on h =
-      let e : Eliminated = restOf (suc symbol) (made ++ (best .divisor ∷ [])) (rowsAfter symbol (best .divisor) rows) in
+      let e : Eliminated = restOf n (suc symbol) (made ++ (best .divisor ∷ [])) (rowsAfter symbol (best .divisor) rows) in
       let sum : (k + best .score) + e .replacements ≡ k + (best .score + e .replacements) = omega arith in
       ap₂ (λ (ds : List Divisor) (j : ℕ). record { divisors = ds; replacements = j; remainingRows = e .remainingRows })
       (append-assoc made (best .divisor ∷ []) (e .divisors)) sum
-      ∙ ap (withRest made k) (sym (from-goes-on smallestFirst symbol made rows h))
+      ∙ ap (withRest made k) (sym (from-goes-on (shallowestFirst n) symbol made rows h))
 
 -- ---- before each step
 
--- the operations are those of the divisors made so far, and what is left to do comes to elimination's end
-pub record BeforeStep (n : ℕ) (first : List Row) (symbol : ℕ) (operations : List Operation) (k : ℕ) (rows : List Row) : Type 0 where
+-- the operations are those of the divisors made so far, the table holds their depths, and what is left to do comes to elimination's end
+pub record BeforeStep (n : ℕ) (first : List Row) (symbol : ℕ) (operations : List Operation) (table : List ℕ) (k : ℕ) (rows : List Row) : Type 0 where
   pub made : List Divisor
   pub operations-made : operations ≡ map divisorOperation made
+  pub depths-held : HoldsDepths n operations table
   pub ready : Ready symbol rows
   pub next-symbol : symbol ≡ n + length made
   pub few : 2 * length made + plainCount rows ≤ maxOperations
   pub replaced : k + plainCount rows ≤ maxOperations
-  pub rest : withRest made k (restOf symbol made rows) ≡ elimination smallestFirst n first
+  pub rest : withRest made k (restOf n symbol made rows) ≡ elimination (shallowestFirst n) n first
 
-pub before-first : (n : ℕ) (rows : List Row) → Ready n rows → plainCount rows ≤ maxOperations → BeforeStep n rows n [] 0 rows
-before-first n rows ready few =
+pub before-first : (n : ℕ) (rows : List Row) (table : List ℕ) → Ready n rows → n ≤ maxColumns → plainCount rows ≤ maxOperations → table ≡ filled maxSymbols 0
+    → BeforeStep n rows n [] table 0 rows
+before-first n rows table ready columns few blank =
     record {
       made = [];
       operations-made = refl;
+      depths-held = depths-started n table (omega arith) blank;
       ready = ready;
       next-symbol = omega arith;
       few = omega (arith, few);
@@ -74,7 +84,8 @@ before-first n rows ready few =
       rest = rest-start n rows;
     }
 
-module _ {n : ℕ} {first : List Row} {symbol : ℕ} {operations : List Operation} {k : ℕ} {rows : List Row} (b : BeforeStep n first symbol operations k rows) where
+module _ {n : ℕ} {first : List Row} {symbol : ℕ} {operations : List Operation} {table : List ℕ} {k : ℕ} {rows : List Row}
+    (b : BeforeStep n first symbol operations table k rows) where
   pub length-made : length operations ≡ length (b .made)
   length-made = ap length (b .operations-made) ∙ length-map (b .made) divisorOperation
 
@@ -82,29 +93,60 @@ module _ {n : ℕ} {first : List Row} {symbol : ℕ} {operations : List Operatio
   pub within-table : n ≤ maxColumns → Ready termSymbols rows
   within-table h = ready-below symbol termSymbols (omega (arith, b .next-symbol, b .few)) rows (b .ready)
 
-  module _ (best : Scored) (e : best ≡ pick before rows) where
-    pub ended-is : best .score < 2 → record { divisors = b .made; replacements = k; remainingRows = rows } ≡ elimination smallestFirst n first
-    ended-is h = rest-ends symbol (b .made) k rows (rw e at h) ∙ b .rest
+  -- the depths in the table are those of the divisors made so far
+  pub pick-by-table : pick (shallower table) rows ≡ pick (shallowestFirst n (b .made)) rows
+  unfolding shallowestFirst
+  pick-by-table = pick-by-depths positions symbol rows (b .ready .well-formed) table (symbolDepths n (b .made)) (λ s h.
+      depth-at n operations table (b .depths-held) s (omega (arith, length-made, b .next-symbol))
+      ∙ ap (λ (os : List Operation). getD (depths (replicate n 0) os) s 0) (b .operations-made)
+      ∙ ap (λ (ds : List ℕ). getD ds s 0) (sym (symbol-depths n (b .made))))
+
+  module _ (best : Scored) (found : best ≡ pick (shallower table) rows) where
+    is : best ≡ pick (shallowestFirst n (b .made)) rows
+    is = found ∙ pick-by-table
+
+    pub ended-is : best .score < 2 → record { divisors = b .made; replacements = k; remainingRows = rows } ≡ elimination (shallowestFirst n) n first
+    ended-is h = rest-ends n symbol (b .made) k rows (rw is at h) ∙ b .rest
 
     module _ (h : 2 ≤ best .score) where
+      -- its score is that of its divisor
+      scores : best .score ≡ score (best .divisor) rows
+      scores = rw is (pick-score (shallowestFirst n (b .made)) rows (rw is at h))
+
       -- a step takes as many terms as its score
       pub plain-less : plainCount (rowsAfter symbol (best .divisor) rows) + best .score ≡ plainCount rows
-      plain-less = let two : 2 ≤ pick before rows .score = rw e at h in rw e (omega (arith, pick-score before rows two, plain-after symbol (pick before rows .divisor) rows))
+      plain-less = omega (arith, scores, plain-after symbol (best .divisor) rows)
 
       pub next-within : n ≤ maxColumns → symbol < termSymbols
       next-within l = omega (arith, plain-less, b .next-symbol, b .few)
 
-      pub before-next : (after : List Operation) → after ≡ operations ++ (divisorOperation (best .divisor) ∷ [])
-          → BeforeStep n first (suc symbol) after (k + best .score) (rowsAfter symbol (best .divisor) rows)
-      before-next after a =
+      -- its symbols have come into being
+      within : DivisorWithin positions symbol (best .divisor)
+      within = divisor-within positions symbol (best .divisor) rows (b .ready .well-formed) (omega (arith, scores))
+
+      pub earlier : (divisorOperation (best .divisor) .a < symbol) × (divisorOperation (best .divisor) .b < symbol)
+      earlier = (within .a, within .b)
+
+      pub depths-small : (getD table (best .divisor .a) 0 < 65535) × (getD table (best .divisor .b) 0 < 65535)
+      depths-small = (small (best .divisor .a) (within .a), small (best .divisor .b) (within .b))
+        where
+          small : (s : ℕ) → s < symbol → getD table s 0 < 65535
+          small s l = omega (arith, depth-small n operations table (b .depths-held) s (omega (arith, length-made, b .next-symbol)), length-made, b .few)
+
+      pub before-next : n ≤ maxColumns → (after : List Operation) → after ≡ operations ++ (divisorOperation (best .divisor) ∷ [])
+          → BeforeStep n first (suc symbol) after (set table symbol (operationDepth table (divisorOperation (best .divisor)))) (k + best .score) (rowsAfter symbol (best .divisor) rows)
+      before-next columns after a =
           let d : Divisor = best .divisor in
+          let o : Operation = divisorOperation d in
           let l : length (b .made ++ (d ∷ [])) ≡ length (b .made) + 1 = length-append (b .made) (d ∷ []) in
+          let at : symbol ≡ n + length operations = omega (arith, length-made, b .next-symbol) in
           record {
             made = b .made ++ (d ∷ []);
-            operations-made = a ∙ ap (λ (os : List Operation). os ++ (divisorOperation d ∷ [])) (b .operations-made) ∙ sym (map-append divisorOperation (b .made) (d ∷ []));
+            operations-made = a ∙ ap (λ (os : List Operation). os ++ (o ∷ [])) (b .operations-made) ∙ sym (map-append divisorOperation (b .made) (d ∷ []));
+            depths-held = rw (a, at) (depths-appended n operations table (b .depths-held) o (omega (arith, at, within .a)) (omega (arith, at, within .b)) (omega (arith, at, next-within columns)));
             ready = ready-after symbol d rows (b .ready);
             next-symbol = omega (arith, l, b .next-symbol);
             few = omega (arith, l, plain-less, b .few);
             replaced = omega (arith, plain-less, b .replaced);
-            rest = rw e (rest-goes-on symbol (b .made) k rows (rw e at h)) ∙ b .rest;
+            rest = rw is (rest-goes-on n symbol (b .made) k rows (rw is at h)) ∙ b .rest;
           }

@@ -11,7 +11,7 @@ use Rattle.layout_rules.specs.declared.Output.{Output}
 use Rattle.layout_rules.specs.Matrix.{matrixRefusal, matrix, rows, columns}
 use Rattle.layout_rules.proofs.LittleEndian.{AreBytes}
 use Rattle.elimination_rules.specs.Rows.{Row, matrixRows, plainCount}
-use Rattle.elimination_rules.specs.Elimination.{Eliminated, smallestFirst, elimination, matrixElimination}
+use Rattle.elimination_rules.specs.Elimination.{Eliminated, shallowestFirst, elimination, matrixElimination}
 use Rattle.elimination_rules.proofs.Order.{Columns}
 use Rattle.elimination_rules.proofs.Counts.{steps-plain}
 use Rattle.elimination_rows.specs.State.{Ready}
@@ -73,6 +73,6 @@ pub outputs-of : (k : ℕ) (end : Eliminated) (next : ℕ) (all : List Output) (
 unfolding outputsOf
 outputs-of k end next all remaining a d r = a ∙ rw (d, r)
 
-pub elimination-is : (bytes : List ℕ) → elimination smallestFirst (columns bytes) (matrixRows positions (matrix bytes)) ≡ eliminationOf bytes
+pub elimination-is : (bytes : List ℕ) → elimination (shallowestFirst (columns bytes)) (columns bytes) (matrixRows positions (matrix bytes)) ≡ eliminationOf bytes
 unfolding matrixElimination
 elimination-is bytes = refl

@@ -20,7 +20,7 @@ use Rattle.board_rules.specs.Machine.{machine, outputValue, times, depth}
 use Rattle.board_rules.specs.Netlist.{IsNetlist}
 use Rattle.board_rules.proofs.DepthLaws.{depth-at-most}
 use Rattle.elimination_rules.specs.Rows.{Row, matrixRows, plainCount}
-use Rattle.elimination_rules.specs.Elimination.{Eliminated, smallestFirst, matrixElimination}
+use Rattle.elimination_rules.specs.Elimination.{Eliminated, shallowestFirst, matrixElimination}
 use Rattle.elimination_rules.proofs.Order.{Columns, matrix-well-formed}
 use Rattle.elimination_rules.proofs.Counts.{plain-within, steps-twice}
 use Rattle.elimination_rules.proofs.Elimination.{steps-of}
@@ -76,7 +76,7 @@ module _ (bytes : List ℕ) (all : AreBytes bytes) (accepted : matrixRefusal byt
 
   pub steps : Stepped (columns bytes) (matrixRows positions (matrix bytes)) (eliminationOf bytes)
   unfolding matrixElimination
-  steps = steps-of smallestFirst positions (columns bytes) (matrix bytes)
+  steps = steps-of (shallowestFirst (columns bytes)) positions (columns bytes) (matrix bytes)
 
   pub plain-most : plainCount (matrixRows positions (matrix bytes)) ≤ maxOperations
   plain-most = plain-within (columns bytes) (matrix bytes) (rows-columns positions (columns bytes) (matrix bytes) (limits .coefficients)) (limits .limits .columns-most)

@@ -2,6 +2,7 @@
 pub mod Limits
 pub mod Sums
 pub mod Chains
+pub mod Depths
 pub mod Counts
 pub mod Operands
 pub mod Values

@@ -1,47 +1,33 @@
--- The order among equal scores, the divisor of two terms in row order, and the best of pairs, as the functions work them out; by the table
--- of rows it is the pick.
+-- The divisor of two terms in row order, the better of two by score and rank, and the best of pairs, as the functions work them out; by the
+-- table of rows it is the pick.
 -- Assumes nothing.
 use Prim.Native.Nat.{ℕ, _+_, _-_, _≤_, _<_, min}
-use mathlib.Core.Path.{_≡_, refl, sym, ap, _∙_}
-use mathlib.Core.Bool.{Bool, true, false, not, _&&_, Bool·beq, or-false}
+use mathlib.Core.Path.{_≡_, refl, sym, ap, ap₂, _∙_}
+use mathlib.Core.Bool.{Bool, true, false, not, _&&_, _||_, Bool·beq, or-false}
 use mathlib.Core.List.{List, [], _∷_, _++_}
 use native.Mathlib.Omega.{arith}
 use borrow.Author.Tests.{eq-eqb, ne-eqb, le-ltb}
-use lib.Dec.{ltb}
+use lib.Dec.{ltb, eqb}
 use lib.ListN.{length, getD, drop}
-use Rattle.limits.specs.Limits.{positions, termSymbols}
+use Rattle.limits.specs.Limits.{positions, termSymbols, maxSymbols}
 use Rattle.term.specs.declared.Term.{Term}
 use Rattle.elimination_rules.specs.declared.Divisor.{Divisor}
 use Rattle.elimination_rules.specs.Rows.{Row, Precedes}
-use Rattle.elimination_rules.specs.RowOrder.{differ}
+use Rattle.elimination_rules.specs.RowOrder.{differ, rowOrderDivisor}
 use Rattle.elimination_rules.specs.Divisors.{Pair, divisorOf, pairsWith, pairsOf}
-use Rattle.elimination_rules.specs.Elimination.{Scored, smaller, before, better, noPairs, allPairs, pick}
+use Rattle.elimination_rules.specs.Elimination.{shallower, Scored, better, noPairs, allPairs, pick}
+use Rattle.elimination_rules.specs.Rank.{lowerRank}
 use Rattle.elimination_rules.specs.Lookup.{Proper, Signs, rowsSigns, lookupScored, lookupBest, lookupPick}
-use Rattle.elimination_rules.proofs.Tests.{by-bool}
+use Rattle.elimination_rules.proofs.Tests.{by-bool, by-test}
 use Rattle.elimination_rules.proofs.RowOrder.{divisor-in-order}
 use Rattle.elimination_rules.proofs.LookupPick.{pick-looked-up, pick-proper}
+use Rattle.elimination_rules.proofs.Rank.{pick-by-rank}
 use Rattle.elimination_rows.specs.State.{Ready}
 use Rattle.elimination_scores.specs.Signs.{rowsSignsFrom, signTable}
-use Rattle.elimination_pick.specs.Pick.{betterOf}
+use Rattle.elimination_pick.specs.declared.Best.{Best}
+use Rattle.elimination_pick.specs.Pick.{scoredOf, Ranked, betterRanked, betterOf}
 use Rattle.elimination_rows.proofs.Members.{left-next, left-none}
 use Rattle.elimination_scores.proofs.Scoring.{table-rows}
-
--- ---- the order
-
-module _ (x y : ℕ) (otherwise : Bool) where
-  pub smaller-differ : (x ≡ y → ⊥) → ltb x y ≡ smaller x y otherwise
-  smaller-differ h = rw (ne-eqb x y h) (sym (or-false (ltb x y)))
-
-  pub smaller-same : x ≡ y → otherwise ≡ smaller x y otherwise
-  smaller-same h = rw (eq-eqb x y h, le-ltb x y (omega arith))
-
--- only the signs are left
-pub signs-decide : (d e : Divisor) → d .a ≡ e .a → d .b ≡ e .b → d .ea ≡ e .ea → d .eb ≡ e .eb → not (d .minus) && e .minus ≡ before d e
-signs-decide d e ha hb hea heb =
-    smaller-same (d .eb) (e .eb) _ heb
-    ∙ smaller-same (d .ea) (e .ea) _ hea
-    ∙ smaller-same (d .b) (e .b) _ hb
-    ∙ smaller-same (d .a) (e .a) _ ha
 
 -- ---- the divisor of two terms
 
@@ -57,41 +43,65 @@ module _ (t u : Term) (a b te ue low : ℕ) (x y : Bool) where
   divisor-worked ha hb he hf hl hx hy p =
       rw (hl, ha, hb, he, hf, hx, hy, not-same (t .negative) (u .negative)) (sym (divisor-in-order (record { first = t; second = u }) p))
 
+-- its symbols are theirs
+pub symbols-within : (t u : Term) → Precedes t u → t .symbol < termSymbols → u .symbol < termSymbols → (d : Divisor) → d ≡ divisorOf (record { first = t; second = u })
+    → (d .a < maxSymbols) × (d .b < maxSymbols)
+symbols-within t u p ht hu d e =
+    let is : d ≡ rowOrderDivisor (record { first = t; second = u }) = e ∙ divisor-in-order (record { first = t; second = u }) p in
+    (omega (arith, ap (λ (x : Divisor). x .a) is), omega (arith, ap (λ (x : Divisor). x .b) is))
+
 -- ---- the better of two, and the best of pairs
 
-module _ (s t : Scored) where
-  pub better-same : s .score ≡ t .score → before (s .divisor) (t .divisor) ≡ better before s t
+module _ (s t : Best) where
+  pub better-same : s .score ≡ t .score → ltb (s .rank) (t .rank) ≡ betterRanked s t
   better-same h = rw (eq-eqb (s .score) (t .score) h, le-ltb (t .score) (s .score) (omega arith))
 
-  pub better-differ : (s .score ≡ t .score → ⊥) → ltb (t .score) (s .score) ≡ better before s t
+  pub better-differ : (s .score ≡ t .score → ⊥) → ltb (t .score) (s .score) ≡ betterRanked s t
   better-differ h = rw (ne-eqb (s .score) (t .score) h) (sym (or-false (ltb (t .score) (s .score))))
 
-  pub better-yes : better before t s ≡ true → t ≡ betterOf s t
+  pub better-yes : betterRanked t s ≡ true → t ≡ betterOf s t
   better-yes h = sym (ap (λ (b : Bool). elim b [ true ↦ t | false ↦ s ]) h)
 
-  pub better-no : better before t s ≡ false → s ≡ betterOf s t
+  pub better-no : betterRanked t s ≡ false → s ≡ betterOf s t
   better-no h = sym (ap (λ (b : Bool). elim b [ true ↦ t | false ↦ s ]) h)
 
-module _ (positions : ℕ) (signs : List Signs) where
-  abbrev best : Scored → List Pair → Scored
-  best s ps = lookupBest positions before signs s ps
+chosen : (s t : Best) (b : Bool) → scoredOf (elim b [ true ↦ t | false ↦ s ]) ≡ elim b [ true ↦ scoredOf t | false ↦ scoredOf s ]
+chosen s t true = refl
+chosen s t false = refl
 
-  best-cons : (s : Scored) (p : Pair) (ps : List Pair) → best s (p ∷ ps) ≡ best (betterOf s (lookupScored positions signs (divisorOf p))) ps
+abbrev betterScored : (Divisor → Divisor → Bool) → Scored → Scored → Scored
+betterScored first s t = elim (better first t s) [ true ↦ t | false ↦ s ]
+
+module _ (depths : List ℕ) (s t : Best) (hs : Ranked depths s) (ht : Ranked depths t) where
+  pub better-is : scoredOf (betterOf s t) ≡ betterScored (lowerRank depths) (scoredOf s) (scoredOf t)
+  better-is = chosen s t (betterRanked t s) ∙ ap (λ (b : Bool). elim b [ true ↦ scoredOf t | false ↦ scoredOf s ]) same
+    where
+      same : betterRanked t s ≡ better (lowerRank depths) (scoredOf t) (scoredOf s)
+      same = ap₂ (λ (x y : ℕ). ltb (s .score) (t .score) || (eqb (t .score) (s .score) && ltb x y)) ht hs
+
+  pub better-ranked : Ranked depths (betterOf s t)
+  better-ranked = by-test (betterRanked t s) t s (Ranked depths) (λ y. ht) (λ y. hs)
+
+module _ (positions : ℕ) (first : Divisor → Divisor → Bool) (signs : List Signs) where
+  abbrev best : Scored → List Pair → Scored
+  best s ps = lookupBest positions first signs s ps
+
+  best-cons : (s : Scored) (p : Pair) (ps : List Pair) → best s (p ∷ ps) ≡ best (betterScored first s (lookupScored positions signs (divisorOf p))) ps
   unfolding lookupBest
   best-cons s p ps =
       let t : Scored = lookupScored positions signs (divisorOf p) in
-      by-bool (better before t s)
-      (λ y. rw (y, lookupBest) (ap (λ (x : Scored). best x ps) (better-yes s t y)))
-      (λ n. rw (n, lookupBest) (ap (λ (x : Scored). best x ps) (better-no s t n)))
+      by-bool (better first t s)
+      (λ y. rw (y, lookupBest) (sym (ap (λ (b : Bool). best (elim b [ true ↦ t | false ↦ s ]) ps) y)))
+      (λ y. rw (y, lookupBest) (sym (ap (λ (b : Bool). best (elim b [ true ↦ t | false ↦ s ]) ps) y)))
 
   best-append : (s : Scored) (ps qs : List Pair) → best s (ps ++ qs) ≡ best (best s ps) qs
   best-append s [] qs = unfold lookupBest in refl
   best-append s (p ∷ ps) qs =
       let t : Scored = lookupScored positions signs (divisorOf p) in
-      best-cons s p (ps ++ qs) ∙ best-append (betterOf s t) ps qs ∙ ap (λ (x : Scored). best x qs) (sym (best-cons s p ps))
+      best-cons s p (ps ++ qs) ∙ best-append (betterScored first s t) ps qs ∙ ap (λ (x : Scored). best x qs) (sym (best-cons s p ps))
 
   pub with-next : (t : Term) (r : Row) (j : ℕ) (d : Term) (s : Scored) → j < length r
-      → best s (pairsWith t (drop j r)) ≡ best (betterOf s (lookupScored positions signs (divisorOf (record { first = t; second = getD r j d })))) (pairsWith t (drop (j + 1) r))
+      → best s (pairsWith t (drop j r)) ≡ best (betterScored first s (lookupScored positions signs (divisorOf (record { first = t; second = getD r j d })))) (pairsWith t (drop (j + 1) r))
   unfolding pairsWith
   with-next t r j d s h = ap (λ (l : Row). best s (pairsWith t l)) (left-next r j d h) ∙ best-cons s (record { first = t; second = getD r j d }) (pairsWith t (drop (j + 1) r))
 
@@ -119,18 +129,19 @@ module _ (positions : ℕ) (signs : List Signs) where
 
 -- ---- the pick by the table of rows
 
-module _ (rows : List Row) (ready : Ready termSymbols rows) where
+module _ (rows : List Row) (ready : Ready termSymbols rows) (depths : List ℕ) where
   pub picked : (table : List ℕ) → table ≡ signTable rows
-      → lookupBest positions before (rowsSignsFrom table 0 (length rows)) noPairs (allPairs rows) ≡ pick before rows
+      → lookupBest positions (lowerRank depths) (rowsSignsFrom table 0 (length rows)) noPairs (allPairs rows) ≡ pick (shallower depths) rows
   picked table t =
-      ap (λ (x : List ℕ). lookupBest positions before (rowsSignsFrom x 0 (length rows)) noPairs (allPairs rows)) t
-      ∙ ap (λ (signs : List Signs). lookupBest positions before signs noPairs (allPairs rows)) (table-rows rows ready)
+      ap (λ (x : List ℕ). lookupBest positions (lowerRank depths) (rowsSignsFrom x 0 (length rows)) noPairs (allPairs rows)) t
+      ∙ ap (λ (signs : List Signs). lookupBest positions (lowerRank depths) signs noPairs (allPairs rows)) (table-rows rows ready)
       ∙ by-look-up
-      ∙ pick-looked-up positions termSymbols before rows (ready .well-formed)
+      ∙ pick-looked-up positions termSymbols (lowerRank depths) rows (ready .well-formed)
+      ∙ pick-by-rank positions termSymbols rows (ready .well-formed) (omega arith) (omega arith) depths
     where
-      by-look-up : lookupBest positions before (rowsSigns rows) noPairs (allPairs rows) ≡ lookupPick positions before rows
+      by-look-up : lookupBest positions (lowerRank depths) (rowsSigns rows) noPairs (allPairs rows) ≡ lookupPick positions (lowerRank depths) rows
       by-look-up = unfold lookupPick in refl
 
   -- a pick that is carried out
-  pub picked-proper : (best : Scored) → best ≡ pick before rows → 2 ≤ best .score → Proper (best .divisor)
-  picked-proper best e h = rw e (pick-proper positions termSymbols before rows (ready .well-formed) (rw e at h))
+  pub picked-proper : (best : Scored) → best ≡ pick (shallower depths) rows → 2 ≤ best .score → Proper (best .divisor)
+  picked-proper best e h = rw e (pick-proper positions termSymbols (shallower depths) rows (ready .well-formed) (rw e at h))

@@ -1,48 +1,29 @@
-// Document 01, "Elimination": the pick, as `elimination_rules` has it. Rests on `elimination_scores`.
+// Document 01, "Elimination": the pick, as `elimination_rules` has it. Rests on `elimination_scores` and `elimination_order`.
 use elimination_rows::row::Row;
 use elimination_rows::rows::Rows;
 use elimination_rules::Divisor;
 use elimination_scores::score;
 use elimination_scores::signs::SIZE;
+use limits::MAX_SYMBOLS;
 use term::Term;
 ghost use mathlib.Core.Path.{_≡_};
 ghost use Prim.Native.Nat.{_+_, _<_, _≤_};
 ghost use lib.ListN.{length, drop, getD};
 ghost use Rattle.limits.specs.Limits.{maxRows, positions, termSymbols};
-ghost use Rattle.elimination_rules.specs.Rows.{Precedes, Ascending};
+ghost use Rattle.elimination_rules.specs.Rows.{Precedes, WellFormed};
 ghost use Rattle.elimination_rules.specs.Divisors.{divisorOf, pairsWith, pairsOf};
-ghost use Rattle.elimination_rules.specs.Elimination.{before, better, noPairs, pick};
+ghost use Rattle.elimination_rules.specs.Elimination.{shallower, noPairs, pick};
+ghost use Rattle.elimination_rules.specs.Rank.{lowerRank};
 ghost use Rattle.elimination_rules.specs.Lookup.{lookupScored, lookupBest};
 ghost use Rattle.elimination_rows.specs.State.{noTerm, rowTerms, rowsTerms, Ready};
 ghost use Rattle.elimination_scores.specs.Signs.{rowsSignsFrom, signTable};
-ghost use Rattle.elimination_pick.specs.Pick.{scoredOf, betterOf};
+ghost use Rattle.elimination_pick.specs.Pick.{scoredOf, Ranked, betterRanked, betterOf};
 
-// A divisor and its score.
+// A divisor, its score, and its rank in the order among equal scores.
 pub struct Best {
     pub divisor: Divisor,
     pub score: usize,
-}
-
-// Ties go to the smallest a, then b, then ea, then eb, then plus before minus.
-fn comes_before(d: Divisor, e: Divisor) -> bool
-    ensures { λ r. ⌜ r ≡ before d e ⌝ }
-{
-    if d.a != e.a {
-        return d.a < e.a;
-    }
-    if d.b != e.b {
-        return d.b < e.b;
-    }
-    if d.ea != e.ea {
-        return d.ea < e.ea;
-    }
-    if d.eb != e.eb {
-        return d.eb < e.eb;
-    }
-    if d.minus {
-        return false;
-    }
-    e.minus
+    rank: u64,
 }
 
 // The divisor of two terms of a row, the first of which stands before the second.
@@ -62,18 +43,18 @@ fn divisor_of(t: Term, u: Term) -> Divisor
     }
 }
 
-// The higher score, and of equal scores the first in order.
+// The higher score, and of equal scores the lower rank.
 fn better(s: Best, t: Best) -> bool
-    ensures { λ r. ⌜ r ≡ better before (scoredOf s) (scoredOf t) ⌝ }
+    ensures { λ r. ⌜ r ≡ betterRanked s t ⌝ }
 {
     if s.score == t.score {
-        return comes_before(s.divisor, t.divisor);
+        return s.rank < t.rank;
     }
     t.score < s.score
 }
 
 fn better_of(s: Best, t: Best) -> Best
-    ensures { λ r. ⌜ scoredOf r ≡ betterOf (scoredOf s) (scoredOf t) ⌝ }
+    ensures { λ r. ⌜ r ≡ betterOf s t ⌝ }
 {
     if better(t, s) {
         return t;
@@ -82,19 +63,33 @@ fn better_of(s: Best, t: Best) -> Best
 }
 
 // The divisor of two terms of a row with its score in the first m rows.
-fn scored(signs: &[u8; SIZE], m: usize, t: Term, u: Term) -> Best
-    requires { ⌜ (m ≤ maxRows) × Precedes t u ⌝ }
+fn scored(signs: &[u8; SIZE], depths: &[u16; MAX_SYMBOLS], m: usize, t: Term, u: Term) -> Best
+    requires { ⌜ (m ≤ maxRows) × Precedes t u × (t .symbol < termSymbols) × (u .symbol < termSymbols) ⌝ }
     ensures { λ r. ⌜ scoredOf r ≡ lookupScored positions (rowsSignsFrom (now (signs .entry)) 0 m) (divisorOf (record { first = t; second = u })) ⌝ }
+    ensures { λ r. ⌜ Ranked (now (depths .entry)) r ⌝ }
 {
     let divisor = divisor_of(t, u);
     let n = score::score(signs, m, divisor);
-    Best { divisor, score: n }
+    let rank = elimination_order::rank(depths, divisor);
+    Best {
+        divisor,
+        score: n,
+        rank,
+    }
 }
 
 // The best of what is found so far and the pairs of the term at i with each behind it.
-fn best_with(signs: &[u8; SIZE], m: usize, row: Row, i: usize, start: Best) -> Best
-    requires { ⌜ (m ≤ maxRows) × Ascending (rowTerms row) × (i < length (rowTerms row)) ⌝ }
-    ensures { λ r. ⌜ scoredOf r ≡ lookupBest positions before (rowsSignsFrom (now (signs .entry)) 0 m) (scoredOf start) (pairsWith (getD (rowTerms row) i noTerm) (drop (i + 1) (rowTerms row))) ⌝ }
+fn best_with(
+    signs: &[u8; SIZE],
+    depths: &[u16; MAX_SYMBOLS],
+    m: usize,
+    row: Row,
+    i: usize,
+    start: Best,
+) -> Best
+    requires { ⌜ (m ≤ maxRows) × WellFormed positions termSymbols (rowTerms row) × (i < length (rowTerms row)) × Ranked (now depths) start ⌝ }
+    ensures { λ r. ⌜ scoredOf r ≡ lookupBest positions (lowerRank (now (depths .entry))) (rowsSignsFrom (now (signs .entry)) 0 m) (scoredOf start) (pairsWith (getD (rowTerms row) i noTerm) (drop (i + 1) (rowTerms row))) ⌝ }
+    ensures { λ r. ⌜ Ranked (now (depths .entry)) r ⌝ }
 {
     let count = row.count();
     let t = row.term(i);
@@ -102,30 +97,37 @@ fn best_with(signs: &[u8; SIZE], m: usize, row: Row, i: usize, start: Best) -> B
     let mut j = i + 1;
     while j < count {
         let u = row.term(j);
-        best = better_of(best, scored(signs, m, t, u));
+        best = better_of(best, scored(signs, depths, m, t, u));
         j += 1;
     }
     best
 }
 
 // And all pairs of a row.
-fn best_in_row(signs: &[u8; SIZE], m: usize, row: Row, start: Best) -> Best
-    requires { ⌜ (m ≤ maxRows) × Ascending (rowTerms row) ⌝ }
-    ensures { λ r. ⌜ scoredOf r ≡ lookupBest positions before (rowsSignsFrom (now (signs .entry)) 0 m) (scoredOf start) (pairsOf (rowTerms row)) ⌝ }
+fn best_in_row(
+    signs: &[u8; SIZE],
+    depths: &[u16; MAX_SYMBOLS],
+    m: usize,
+    row: Row,
+    start: Best,
+) -> Best
+    requires { ⌜ (m ≤ maxRows) × WellFormed positions termSymbols (rowTerms row) × Ranked (now depths) start ⌝ }
+    ensures { λ r. ⌜ scoredOf r ≡ lookupBest positions (lowerRank (now (depths .entry))) (rowsSignsFrom (now (signs .entry)) 0 m) (scoredOf start) (pairsOf (rowTerms row)) ⌝ }
+    ensures { λ r. ⌜ Ranked (now (depths .entry)) r ⌝ }
 {
     let count = row.count();
     let mut best = start;
     let mut i = 0;
     while i < count {
-        best = best_with(signs, m, row, i, best);
+        best = best_with(signs, depths, m, row, i, best);
         i += 1;
     }
     best
 }
 
 // No pairs at all count as a highest score below 2.
-fn no_pairs() -> Best
-    ensures { λ r. ⌜ scoredOf r ≡ noPairs ⌝ }
+fn no_pairs(depths: &[u16; MAX_SYMBOLS]) -> Best
+    ensures { λ r. ⌜ (scoredOf r ≡ noPairs) × Ranked (now (depths .entry)) r ⌝ }
 {
     let divisor = Divisor {
         a: 0,
@@ -134,19 +136,24 @@ fn no_pairs() -> Best
         eb: 0,
         minus: false,
     };
-    Best { divisor, score: 0 }
+    let rank = elimination_order::rank(depths, divisor);
+    Best {
+        divisor,
+        score: 0,
+        rank,
+    }
 }
 
-// The pick of the rows whose table of signs is lent: the best of all pairs.
-pub fn pick(signs: &[u8; SIZE], rows: Rows) -> Best
+// The pick of the rows whose table of signs is lent, by the depths of the symbols: the best of all pairs.
+pub fn pick(signs: &[u8; SIZE], depths: &[u16; MAX_SYMBOLS], rows: Rows) -> Best
     requires { ⌜ (now signs ≡ signTable (rowsTerms rows)) × Ready termSymbols (rowsTerms rows) ⌝ }
-    ensures { λ r. ⌜ scoredOf r ≡ pick before (rowsTerms rows) ⌝ }
+    ensures { λ r. ⌜ scoredOf r ≡ pick (shallower (now (depths .entry))) (rowsTerms rows) ⌝ }
 {
     let m = rows.m();
-    let mut best = no_pairs();
+    let mut best = no_pairs(depths);
     let mut i = 0;
     while i < m {
-        best = best_in_row(signs, m, rows.row(i), best);
+        best = best_in_row(signs, depths, m, rows.row(i), best);
         i += 1;
     }
     best

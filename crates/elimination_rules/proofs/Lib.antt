@@ -17,5 +17,6 @@ pub mod Marked
 pub mod LookupSigns
 pub mod LookupTaken
 pub mod LookupPick
+pub mod Rank
 pub mod LookupAfter
 pub mod LookupFlags

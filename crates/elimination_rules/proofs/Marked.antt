@@ -3,11 +3,11 @@
 use mathlib.Core.Path.{refl}
 use Rattle.elimination_rules.specs.Rows.{rowFrom, matrixRows, plainCount}
 use Rattle.elimination_rules.specs.Divisors.{taken}
-use Rattle.elimination_rules.specs.Elimination.{pick, matrixElimination}
+use Rattle.elimination_rules.specs.Elimination.{shallowestFirst, pick, matrixElimination}
 use Rattle.elimination_rules.specs.Marked.{MarkedElimination}
 
 pub marked-elimination : MarkedElimination
-unfolding rowFrom matrixRows plainCount taken pick matrixElimination
+unfolding rowFrom matrixRows plainCount taken shallowestFirst pick matrixElimination
 marked-elimination = record {
   score-21 = refl;
   divisors-21 = refl;
@@ -22,4 +22,5 @@ marked-elimination = record {
   divisors-three = refl;
   replacements-three = refl;
   ties-four = refl;
+  depth-decides = refl;
 }

@@ -1,10 +1,10 @@
--- The pick's score is that of its divisor, and no divisor has a higher one. Of equal scores it is the first, by any order that is
--- transitive; and where the order tells any two divisors apart, nothing else is the pick.
+-- The pick's score is that of its divisor, and no divisor has a higher one, by any order. Orders that agree on the divisors of the rows'
+-- pairs have the same pick.
 -- Assumes nothing.
 use Prim.Native.Nat.{_≤_, _<_}
-use mathlib.Core.Path.{_≡_, refl, sym, _∙_, ap}
+use mathlib.Core.Path.{_≡_, refl, sym, _∙_, ap, ap₂}
 use mathlib.Core.Logic.{_⊎_, inl, inr, ⊎-elim}
-use mathlib.Core.Bool.{Bool, true, false, _&&_}
+use mathlib.Core.Bool.{Bool, true, false, _&&_, _||_}
 use mathlib.Core.List.{List, [], _∷_, List·Memᴰ, List·Memᴰ·head, List·Memᴰ·tail, List·Memᴰ·cases-cons, List·Memᴰ·not-nil, Memᴰ·append-left, Memᴰ·append-right}
 use native.Mathlib.Omega.{arith}
 use lib.Dec.{eqb, ltb}
@@ -16,7 +16,7 @@ use Rattle.elimination_rules.specs.Elimination.{Scored, scored, better, 
 use Rattle.elimination_rules.proofs.Tests.{by-bool, clash, and-left, and-both, or-right, or-no-left, or-cases, and-right}
 use Rattle.elimination_rules.proofs.Order.{score-occurs}
 
-all-pairs : (r : Row) (rows : List Row) → List·Memᴰ r rows → (p : Pair) → List·Memᴰ p (pairsOf r) → List·Memᴰ p (allPairs rows)
+pub all-pairs : (r : Row) (rows : List Row) → List·Memᴰ r rows → (p : Pair) → List·Memᴰ p (pairsOf r) → List·Memᴰ p (allPairs rows)
 unfolding allPairs
 all-pairs r [] m p k = absurd (List·Memᴰ·not-nil m)
 all-pairs r (q ∷ rows) m p k = ⊎-elim
@@ -78,7 +78,7 @@ module _ (first : Divisor → Divisor → Bool) where
         ))
 
     -- the pick is the scored divisor of one of the pairs, unless there is none
-    best-is : (ps : List Pair) → ((ps ≡ []) × (bestOf first rows ps ≡ noPairs)) ⊎ ((p : Pair) × List·Memᴰ p ps × (bestOf first rows ps ≡ scored rows p))
+    pub best-is : (ps : List Pair) → ((ps ≡ []) × (bestOf first rows ps ≡ noPairs)) ⊎ ((p : Pair) × List·Memᴰ p ps × (bestOf first rows ps ≡ scored rows p))
     unfolding bestOf
     best-is [] = inl (refl, refl)
     best-is (p ∷ ps) = inr (⊎-elim
@@ -118,3 +118,28 @@ module _ (first : Divisor → Divisor → Bool) where
         (λ e. absurd (omega (arith, ap (λ x. x .score) (e .1))))
         (λ e. ap (λ x. x .score) (e .2) ∙ ap (λ x. score (x .divisor) rows) (sym (e .2)))
         pick-is
+
+-- ---- two orders that agree on the divisors of the rows' pairs
+
+module _ (first second : Divisor → Divisor → Bool) (rows : List Row)
+    (agree : (p q : Pair) → List·Memᴰ p (allPairs rows) → List·Memᴰ q (allPairs rows) → first (divisorOf p) (divisorOf q) ≡ second (divisorOf p) (divisorOf q)) where
+  best-from-agrees : (q : Pair) (ps : List Pair) → List·Memᴰ q (allPairs rows) → ((p : Pair) → List·Memᴰ p ps → List·Memᴰ p (allPairs rows))
+      → bestFrom first rows (scored rows q) ps ≡ bestFrom second rows (scored rows q) ps
+  unfolding bestFrom
+  best-from-agrees q [] m within = refl
+  best-from-agrees q (p ∷ ps) m within =
+      let s : Scored = scored rows q in
+      let t : Scored = scored rows p in
+      let k : List·Memᴰ p (allPairs rows) = within p (List·Memᴰ·head refl) in
+      let rest : (x : Pair) → List·Memᴰ x ps → List·Memᴰ x (allPairs rows) = λ x l. within x (List·Memᴰ·tail l) in
+      ap {B = Scored} (λ (b : Bool). elim (ltb (s .score) (t .score) || (eqb (t .score) (s .score) && b)) [ true ↦ bestFrom first rows t ps | false ↦ bestFrom first rows s ps ]) (agree p q k m)
+      ∙ ap₂ {C = Scored} (λ x y. elim (better second t s) [ true ↦ x | false ↦ y ]) (best-from-agrees p ps k rest) (best-from-agrees q ps m rest)
+
+  best-agrees : (ps : List Pair) → ((p : Pair) → List·Memᴰ p ps → List·Memᴰ p (allPairs rows)) → bestOf first rows ps ≡ bestOf second rows ps
+  unfolding bestOf
+  best-agrees [] within = refl
+  best-agrees (p ∷ ps) within = best-from-agrees p ps (within p (List·Memᴰ·head refl)) (λ x l. within x (List·Memᴰ·tail l))
+
+  pub pick-agrees : pick first rows ≡ pick second rows
+  unfolding pick
+  pick-agrees = best-agrees (allPairs rows) (λ p m. m)

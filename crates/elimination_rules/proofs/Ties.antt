@@ -1,5 +1,5 @@
 -- The order among equal scores. By a strict total order the pick is the first of those with the highest score, and nothing else is
--- the pick, whatever way the pairs are gone through. Document 01's order is such an order.
+-- the pick, whatever the order in which pairs are visited. Document 01's order is such an order, whatever divisors were made.
 -- Assumes nothing.
 use Prim.Native.Nat.{ℕ, _≤_, _<_}
 use mathlib.Core.Path.{_≡_, refl, sym, _∙_, ap}
@@ -11,10 +11,11 @@ use lib.Dec.{eqb, ltb}
 use borrow.Author.Tests.{eqb-true, eq-eqb, ltb-true, ltb-false, lt-ltb, not-true}
 use Rattle.elimination_rules.specs.declared.Divisor.{Divisor}
 use Rattle.elimination_rules.specs.Rows.{Row}
-use Rattle.elimination_rules.specs.Divisors.{Pair}
-use Rattle.elimination_rules.specs.Elimination.{Scored, scored, better, bestFrom, bestOf, allPairs, pick, smaller, before}
+use Rattle.elimination_rules.specs.Divisors.{Pair, divisorOf, score}
+use Rattle.elimination_rules.specs.Elimination.{divisorDepth, symbolDepths, smaller, before, shallower, shallowestFirst, Scored, scored, better, bestFrom, allPairs, noPairs, bestOf, pick}
 use Rattle.elimination_rules.proofs.Tests.{by-bool, clash, and-left, and-right, and-both, or-left, or-right, or-cases, or-no-left}
-use Rattle.elimination_rules.proofs.Pick.{better-yes, better-no, NotWorse, pick-is}
+use Rattle.elimination_rules.proofs.Order.{score-occurs}
+use Rattle.elimination_rules.proofs.Pick.{all-pairs, better-yes, better-no, NotWorse, best-is, pick-is}
 
 pub record StrictTotal (first : Divisor → Divisor → Bool) : Type 0 where
   pub irreflexive : (d : Divisor) → first d d ≡ false
@@ -103,7 +104,30 @@ module _ (first : Divisor → Divisor → Bool) (order : StrictTotal first) wher
         (λ e. e .2 ∙ same-divisors (scored rows (e .0)) (scored rows q) (rw (e .2) at (pick-first q m)) (h (e .0) (e .1)))
         (pick-is first rows)
 
--- ---- document 01's order: the smallest a, then b, then ea, then eb, then plus before minus
+    -- whatever the order in which pairs are visited
+    pub visited-any-way : (ps : List Pair) → ((p : Pair) → List·Memᴰ p ps → List·Memᴰ p (allPairs rows)) → ((p : Pair) → List·Memᴰ p (allPairs rows) → List·Memᴰ p ps)
+        → bestOf first rows ps ≡ pick first rows
+    visited-any-way ps within all = ⊎-elim
+        (λ e. e .1 ∙ none (e .0))
+        (λ e. e .2 ∙ sym (only-pick (e .0) (within (e .0) (e .1)) (λ p m. rw (e .2) at (best-first ps p (all p m)))))
+        (best-is first rows ps)
+      where
+        none : ps ≡ [] → noPairs ≡ pick first rows
+        none e = ⊎-elim (λ h. sym (h .1)) (λ h. absurd (List·Memᴰ·not-nil (rw e at (all (h .0) (h .1))))) (pick-is first rows)
+
+    -- every other divisor that occurs has a lower score, or the same and goes behind the pick
+    pub pick-only : (d : Divisor) → 1 ≤ score d rows
+        → (d ≡ pick first rows .divisor) ⊎ ((score d rows < pick first rows .score) ⊎ ((score d rows ≡ pick first rows .score) × (first (pick first rows .divisor) d ≡ true)))
+    pick-only d h =
+        let x = score-occurs d rows h in
+        let p : Pair = x .2 .0 in
+        let e : divisorOf p ≡ d = x .2 .1 .divisor in
+        rw (← e) (⊎-elim
+        (λ l. inr (inl l))
+        (λ l. ⊎-elim inl (λ r. inr (inr (l .0, r))) (order .total (divisorOf p) (pick first rows .divisor) (l .1)))
+        (pick-first p (all-pairs (x .0) rows (x .1) p (x .2 .1 .pair))))
+
+-- ---- the smallest a, then b, then ea, then eb, then plus before minus
 
 -- in one of two pairs of numbers the first is smaller, or they are the same and what follows decides
 abbrev pub Smaller : ℕ → ℕ → Type 0 → Type 0
@@ -187,3 +211,39 @@ before-order = record {
       (smaller-total (d .ea) (e .ea) _ _
       (smaller-total (d .eb) (e .eb) _ _ (plus-first-total (d .minus) (e .minus))))) h);
 }
+
+-- ---- document 01's order: the smallest depth, then that
+
+module _ (depths : List ℕ) where
+  abbrev pub Shallower : Divisor → Divisor → Type 0
+  Shallower d e = Smaller (divisorDepth depths d) (divisorDepth depths e) (Before d e)
+
+  pub shallower-is : (d e : Divisor) → (shallower depths d e ≡ true) ↔ Shallower d e
+  shallower-is d e = (
+    smaller-as (divisorDepth depths d) (divisorDepth depths e) _ (before-is d e .0),
+    as-smaller (divisorDepth depths d) (divisorDepth depths e) _ (before-is d e .1),
+  )
+
+  pub shallower-order : StrictTotal (shallower depths)
+  shallower-order = record {
+    irreflexive = λ d. smaller-self (divisorDepth depths d) _ (before-order .irreflexive d);
+    transitive = λ d e f. smaller-transitive (divisorDepth depths d) (divisorDepth depths e) (divisorDepth depths f) _ _ _ (before-order .transitive d e f);
+    total = λ d e h. ⊎-elim (λ w. inl (w .1)) inr (smaller-total (divisorDepth depths d) (divisorDepth depths e) _ _ (before-order .total d e) h);
+  }
+
+module _ (inputs : ℕ) (made : List Divisor) where
+  pub shallowest-first-order : StrictTotal (shallowestFirst inputs made)
+  unfolding shallowestFirst
+  shallowest-first-order = shallower-order (symbolDepths inputs made)
+
+  -- the pick is the one divisor of the highest score, then the smallest depth, then the smallest a, b, ea, eb, then plus
+  pub shallowest-pick : (rows : List Row) (d : Divisor) → 1 ≤ score d rows
+      → (let best : Scored = pick (shallowestFirst inputs made) rows in
+      (d ≡ best .divisor) ⊎ ((score d rows < best .score) ⊎ ((score d rows ≡ best .score) × Shallower (symbolDepths inputs made) (best .divisor) d)))
+  unfolding shallowestFirst
+  shallowest-pick rows d h =
+      let depths : List ℕ = symbolDepths inputs made in
+      ⊎-elim
+      inl
+      (λ r. inr (⊎-elim inl (λ l. inr (l .0, shallower-is depths (pick (shallower depths) rows .divisor) d .0 (l .1))) r))
+      (pick-only (shallower depths) (shallower-order depths) rows d h)

@@ -1,10 +1,11 @@
 -- Document 01, "Elimination": the pick, the step, elimination.
 -- Assumes nothing.
-use Prim.Native.Nat.{ℕ, zero, suc, _+_}
+use Prim.Native.Nat.{ℕ, zero, suc, _+_, max}
 use mathlib.Core.Bool.{Bool, true, false, not, _&&_, _||_}
 use mathlib.Core.List.{List, [], _∷_, _++_}
 use lib.Dec.{ltb, eqb}
 use lib.IntN.{ℤ}
+use lib.ListN.{getD, replicate}
 use Rattle.term.specs.declared.Term.{Term}
 use Rattle.elimination_rules.specs.declared.Divisor.{Divisor}
 use Rattle.elimination_rules.specs.Rows.{Row, matrixRows, plainCount}
@@ -15,15 +16,34 @@ use Rattle.elimination_rules.specs.Divisors.{Pair, coDivisor, divisorOf,
 abbrev pub TieOrder : Type 0
 TieOrder = List Divisor → Divisor → Divisor → Bool
 
+-- the depth of the operation that a divisor would become, by the depths of the symbols: 1 more than the deeper of a and b
+abbrev pub divisorDepth : List ℕ → Divisor → ℕ
+divisorDepth depths d = suc (max (getD depths (d .a) 0) (getD depths (d .b) 0))
+
+-- inputs having 0 and each divisor made so far its own
+unfoldable pub symbolDepthsFrom : List ℕ → List Divisor → List ℕ
+symbolDepthsFrom depths [] = depths
+symbolDepthsFrom depths (d ∷ ds) = symbolDepthsFrom (depths ++ (divisorDepth depths d ∷ [])) ds
+
+unfoldable pub symbolDepths : ℕ → List Divisor → List ℕ
+unfolding symbolDepthsFrom
+symbolDepths inputs made = symbolDepthsFrom (replicate inputs 0) made
+
 abbrev pub smaller : ℕ → ℕ → Bool → Bool
 smaller x y otherwise = ltb x y || (eqb x y && otherwise)
 
--- document 01's: the smallest a, then b, then ea, then eb, then plus before minus
+-- the smallest a, then b, then ea, then eb, then plus before minus
 abbrev pub before : Divisor → Divisor → Bool
 before d e = smaller (d .a) (e .a) (smaller (d .b) (e .b) (smaller (d .ea) (e .ea) (smaller (d .eb) (e .eb) (not (d .minus) && e .minus))))
 
-abbrev pub smallestFirst : TieOrder
-smallestFirst made d e = before d e
+-- the smallest depth, then that
+abbrev pub shallower : List ℕ → Divisor → Divisor → Bool
+shallower depths d e = smaller (divisorDepth depths d) (divisorDepth depths e) (before d e)
+
+-- document 01's, for a number of inputs
+unfoldable pub shallowestFirst : ℕ → TieOrder
+unfolding symbolDepths
+shallowestFirst inputs made = shallower (symbolDepths inputs made)
 
 -- ---- the pick: the highest score, and of equal scores the first
 
@@ -133,5 +153,5 @@ elimination order inputs rows = eliminate order (enoughSteps rows) inputs [] row
 
 -- of a matrix with a number of columns, over a number of digit positions, by document 01's order
 unfoldable pub matrixElimination : ℕ → ℕ → List (List ℤ) → Eliminated
-unfolding elimination matrixRows
-matrixElimination positions inputs m = elimination smallestFirst inputs (matrixRows positions m)
+unfolding elimination matrixRows shallowestFirst
+matrixElimination positions inputs m = elimination (shallowestFirst inputs) inputs (matrixRows positions m)

@@ -3,6 +3,7 @@ pub mod Divisors
 pub mod Visit
 pub mod RowOrder
 pub mod Elimination
+pub mod Rank
 pub mod Steps
 pub mod Weights
 pub mod Marked

@@ -10,7 +10,7 @@ use Rattle.limits.specs.Limits.{positions}
 use Rattle.elimination_rules.specs.declared.Divisor.{Divisor}
 use Rattle.elimination_rules.specs.Rows.{rowFrom, matrixRows, plainCount}
 use Rattle.elimination_rules.specs.Divisors.{coDivisor, taken}
-use Rattle.elimination_rules.specs.Elimination.{Eliminated, before, pick, matrixElimination}
+use Rattle.elimination_rules.specs.Elimination.{Eliminated, shallowestFirst, pick, matrixElimination}
 
 -- a 1 by 1 matrix
 abbrev pub single : ℕ → List (List ℤ)
@@ -39,6 +39,17 @@ fourByFour =
 abbrev pub eliminatedFour : Eliminated
 eliminatedFour = matrixElimination positions 4 fourByFour
 
+-- rows 1 1 1 1 1, 1 1 1 0 0, 0 0 0 1 1
+abbrev pub sumsOfFive : List (List ℤ)
+sumsOfFive =
+    (pos 1 ∷ pos 1 ∷ pos 1 ∷ pos 1 ∷ pos 1 ∷ [])
+    ∷ (pos 1 ∷ pos 1 ∷ pos 1 ∷ pos 0 ∷ pos 0 ∷ [])
+    ∷ (pos 0 ∷ pos 0 ∷ pos 0 ∷ pos 1 ∷ pos 1 ∷ [])
+    ∷ []
+
+abbrev pub eliminatedSums : Eliminated
+eliminatedSums = matrixElimination positions 5 sumsOfFive
+
 -- row 3, −3, which the program list-bank prints
 abbrev pub threeMinusThreeMatrix : List (List ℤ)
 threeMinusThreeMatrix = (pos 3 ∷ negsuc 2 ∷ []) ∷ []
@@ -50,7 +61,7 @@ abbrev pub unshifted : ℕ → ℕ → Bool → Divisor
 unshifted a b minus = record { a = a; b = b; ea = 0; eb = 0; minus = minus }
 
 pub record MarkedElimination : Type 0 where
-  pub score-21 : pick before (matrixRows positions (single 21)) .score ≡ 1
+  pub score-21 : pick (shallowestFirst 1 []) (matrixRows positions (single 21)) .score ≡ 1
   pub divisors-21 : eliminatedSingle 21 .divisors ≡ []
   pub divisors-85 : eliminatedSingle 85 .divisors ≡ onePlusLL ∷ []
   pub taken-85 : takenAt 85 ≡ 0 ∷ 4 ∷ []
@@ -65,3 +76,5 @@ pub record MarkedElimination : Type 0 where
   pub replacements-three : eliminatedThree .replacements ≡ 2
   -- all four have score 2, so it is the order among equal scores that picks them: x0 + x3, x0 − x3, x1 + x2, x1 − x2
   pub ties-four : eliminatedFour .divisors ≡ unshifted 0 3 false ∷ unshifted 0 3 true ∷ unshifted 1 2 false ∷ unshifted 1 2 true ∷ []
+  -- all three have score 2; behind x0 + x1, which gets symbol 5, x3 + x4 goes before x2 + 5, whose operation would be deeper
+  pub depth-decides : eliminatedSums .divisors ≡ unshifted 0 1 false ∷ unshifted 3 4 false ∷ unshifted 2 5 false ∷ []

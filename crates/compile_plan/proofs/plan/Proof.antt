@@ -10,7 +10,7 @@ use Rattle.layout_rules.specs.Matrix.{matrix, rows, columns}
 use Rattle.layout_rules.proofs.LittleEndian.{AreBytes}
 use Rattle.layout_rules.proofs.MatrixRefusal.{AcceptedMatrix, accepted-matrix}
 use Rattle.elimination_rules.specs.Rows.{Row, matrixRows, plainCount}
-use Rattle.elimination_rules.specs.Elimination.{Eliminated, smallestFirst, elimination}
+use Rattle.elimination_rules.specs.Elimination.{Eliminated, shallowestFirst, elimination}
 use Rattle.elimination_rows.specs.State.{rowsTerms, Ready}
 use Rattle.compile_lists.specs.Lists.{operationsList}
 use Rattle.compile_rules.specs.Chains.{divisorOperation}
@@ -81,7 +81,7 @@ module _ (c : tie.After-eliminate-rows) where
 
   end-is : EliminatedOf end (c .eliminate-rows .result)
   end-is = subst (λ (e : Eliminated). EliminatedOf e (c .eliminate-rows .result))
-      (ap (elimination smallestFirst (columns (bytes start))) (first-is (c .before .before)) ∙ elimination-is (bytes start)) (c .eliminate-rows .ensures)
+      (ap (elimination (shallowestFirst (columns (bytes start))) (columns (bytes start))) (first-is (c .before .before)) ∙ elimination-is (bytes start)) (c .eliminate-rows .ensures)
 
   made : length (operationsList (c .eliminate-rows .result .operations)) ≡ length (end .divisors)
   made = ap length (end-is .operations) ∙ length-map (end .divisors) divisorOperation

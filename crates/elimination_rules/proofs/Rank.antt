@@ -1,0 +1,127 @@
+-- A divisor's rank: on divisors within the limits the lower rank is that of the divisor which goes first, so the pick by ranks is the pick.
+-- Of the depths, only those of symbols in the rows count.
+-- Assumes nothing.
+use Prim.Native.Nat.{ℕ, suc, _+_, _*_, _≤_, _<_, max}
+use mathlib.Core.Path.{_≡_, refl, sym, _∙_, ap, ap₂}
+use mathlib.Core.Bool.{Bool, true, false, not, _&&_, _||_, and-false, or-false}
+use mathlib.Core.List.{List, List·Memᴰ}
+use native.Mathlib.Nat.{mul-le-mul-right}
+use native.Mathlib.Omega.{arith}
+use lib.Dec.{ltb, eqb}
+use lib.ListN.{getD}
+use borrow.Author.Tests.{eq-eqb, ne-eqb, lt-ltb, le-ltb, ltb-true, ltb-false}
+use Rattle.elimination_rules.specs.declared.Divisor.{Divisor}
+use Rattle.elimination_rules.specs.Rows.{Row, WellFormed, EachRow}
+use Rattle.elimination_rules.specs.Divisors.{Pair, divisorOf}
+use Rattle.elimination_rules.specs.Elimination.{divisorDepth, smaller, before, shallower, allPairs, pick}
+use Rattle.elimination_rules.specs.Rank.{symbolRoom, exponentRoom, signKey, divisorKey, keyRoom, divisorRank, lowerRank}
+use Rattle.elimination_rules.proofs.Tests.{by-bool}
+use Rattle.elimination_rules.proofs.Order.{DivisorWithin, divisor-within}
+use Rattle.elimination_rules.proofs.Pick.{pick-agrees}
+use Rattle.elimination_rules.proofs.LookupPick.{pair-scores}
+
+-- ---- a number in front of another
+
+module _ (x y : ℕ) (otherwise : Bool) where
+  smaller-less : x < y → smaller x y otherwise ≡ true
+  smaller-less h = rw (lt-ltb x y h)
+
+  smaller-more : y < x → smaller x y otherwise ≡ false
+  smaller-more h = rw (le-ltb x y (omega arith), ne-eqb x y (omega arith))
+
+  smaller-equal : x ≡ y → smaller x y otherwise ≡ otherwise
+  smaller-equal h = rw (le-ltb x y (omega arith), eq-eqb x y h)
+
+-- the three cases of two numbers
+by-order {ℓ} : {P : Type ℓ} (x y : ℕ) → (x < y → P) → (x ≡ y → P) → (y < x → P) → P
+by-order x y less equal more = by-bool (ltb x y)
+    (λ e. less (ltb-true x y e))
+    (λ e. by-bool (ltb y x)
+    (λ f. more (ltb-true y x f))
+    (λ f. equal (omega (arith, ltb-false x y e, ltb-false y x f))))
+
+-- x and y behind it, which has room below size
+module _ (size x y x′ y′ : ℕ) (otherwise : Bool) (h : y < size) (h′ : y′ < size) where
+  before-all : (a b : ℕ) → a < b → a * size + size ≤ b * size
+  before-all a b l = let m : suc a * size ≤ b * size = mul-le-mul-right size l in omega (arith, m)
+
+  abbrev whole : ℕ
+  whole = x * size + y
+
+  abbrev whole′ : ℕ
+  whole′ = x′ * size + y′
+
+  only-behind : x ≡ x′ → smaller whole whole′ otherwise ≡ smaller y y′ otherwise
+  only-behind e =
+      let same : x * size ≡ x′ * size = ap (λ (z : ℕ). z * size) e in
+      by-order y y′
+      (λ l. smaller-less whole whole′ otherwise (omega (arith, same)) ∙ sym (smaller-less y y′ otherwise l))
+      (λ f. smaller-equal whole whole′ otherwise (omega (arith, same)) ∙ sym (smaller-equal y y′ otherwise f))
+      (λ l. smaller-more whole whole′ otherwise (omega (arith, same)) ∙ sym (smaller-more y y′ otherwise l))
+
+  in-front : smaller (x * size + y) (x′ * size + y′) otherwise ≡ smaller x x′ (smaller y y′ otherwise)
+  in-front = by-order x x′
+      (λ l. smaller-less whole whole′ otherwise (omega (arith, before-all x x′ l)) ∙ sym (smaller-less x x′ (smaller y y′ otherwise) l))
+      (λ e. only-behind e ∙ sym (smaller-equal x x′ (smaller y y′ otherwise) e))
+      (λ l. smaller-more whole whole′ otherwise (omega (arith, before-all x′ x l)) ∙ sym (smaller-more x x′ (smaller y y′ otherwise) l))
+
+alone : (x y : ℕ) → ltb x y ≡ smaller x y false
+alone x y = sym (ap (λ (b : Bool). ltb x y || b) (and-false (eqb x y)) ∙ or-false (ltb x y))
+
+one-more : (x y : ℕ) (otherwise : Bool) → smaller x y otherwise ≡ smaller (suc x) (suc y) otherwise
+one-more x y otherwise = by-order x y
+    (λ l. smaller-less x y otherwise l ∙ sym (smaller-less (suc x) (suc y) otherwise (omega arith)))
+    (λ e. smaller-equal x y otherwise e ∙ sym (smaller-equal (suc x) (suc y) otherwise (omega arith)))
+    (λ l. smaller-more x y otherwise l ∙ sym (smaller-more (suc x) (suc y) otherwise (omega arith)))
+
+-- ---- the key, and the rank
+
+signs-in-order : (m n : Bool) → smaller (signKey m) (signKey n) false ≡ not m && n
+signs-in-order true true = refl
+signs-in-order true false = refl
+signs-in-order false true = refl
+signs-in-order false false = refl
+
+pub sign-room : (m : Bool) → signKey m < 2
+sign-room true = omega arith
+sign-room false = omega arith
+
+-- so many symbols and positions have room
+module _ (positions symbol : ℕ) (enough-positions : positions ≤ exponentRoom) (enough-symbols : symbol ≤ symbolRoom) where
+  module _ (d e : Divisor) (u : DivisorWithin positions symbol d) (v : DivisorWithin positions symbol e) where
+    key-order : smaller (divisorKey d) (divisorKey e) false ≡ before d e
+    key-order =
+        let signs : Bool = smaller (signKey (d .minus)) (signKey (e .minus)) false in
+        in-front 2 _ (signKey (d .minus)) _ (signKey (e .minus)) false (sign-room (d .minus)) (sign-room (e .minus))
+        ∙ in-front exponentRoom _ (d .eb) _ (e .eb) signs (omega (arith, u .eb)) (omega (arith, v .eb))
+        ∙ in-front exponentRoom _ (d .ea) _ (e .ea) _ (omega (arith, u .ea)) (omega (arith, v .ea))
+        ∙ in-front symbolRoom (d .a) (d .b) (e .a) (e .b) _ (omega (arith, u .b)) (omega (arith, v .b))
+        ∙ ap (λ (b : Bool). smaller (d .a) (e .a) (smaller (d .b) (e .b) (smaller (d .ea) (e .ea) (smaller (d .eb) (e .eb) b)))) (signs-in-order (d .minus) (e .minus))
+
+    pub rank-order : (depths : List ℕ) → lowerRank depths d e ≡ shallower depths d e
+    rank-order depths =
+        let deeper : Divisor → ℕ = λ x. max (getD depths (x .a) 0) (getD depths (x .b) 0) in
+        alone (divisorRank depths d) (divisorRank depths e)
+        ∙ in-front keyRoom (deeper d) (divisorKey d) (deeper e) (divisorKey e) false (key-room d u) (key-room e v)
+        ∙ ap (smaller (deeper d) (deeper e)) key-order
+        ∙ one-more (deeper d) (deeper e) (before d e)
+      where
+        key-room : (x : Divisor) → DivisorWithin positions symbol x → divisorKey x < keyRoom
+        key-room x w = omega (arith, sign-room (x .minus), w .a, w .b, w .ea, w .eb)
+
+-- ---- the pick
+
+module _ (positions symbol : ℕ) (rows : List Row) (well-formed : EachRow (WellFormed positions symbol) rows) where
+  within : (p : Pair) → List·Memᴰ p (allPairs rows) → DivisorWithin positions symbol (divisorOf p)
+  within p m = divisor-within positions symbol (divisorOf p) rows well-formed (pair-scores positions symbol rows well-formed p m)
+
+  pub pick-by-rank : positions ≤ exponentRoom → symbol ≤ symbolRoom → (depths : List ℕ) → pick (lowerRank depths) rows ≡ pick (shallower depths) rows
+  pick-by-rank enough-positions enough-symbols depths = pick-agrees (lowerRank depths) (shallower depths) rows
+      (λ p q m n. rank-order positions symbol enough-positions enough-symbols (divisorOf p) (divisorOf q) (within p m) (within q n) depths)
+
+  pub pick-by-depths : (depths others : List ℕ) → ((s : ℕ) → s < symbol → getD depths s 0 ≡ getD others s 0) → pick (shallower depths) rows ≡ pick (shallower others) rows
+  pick-by-depths depths others same = pick-agrees (shallower depths) (shallower others) rows (λ p q m n.
+      ap₂ (λ (x y : ℕ). smaller x y (before (divisorOf p) (divisorOf q))) (depth-same p m) (depth-same q n))
+    where
+      depth-same : (p : Pair) → List·Memᴰ p (allPairs rows) → divisorDepth depths (divisorOf p) ≡ divisorDepth others (divisorOf p)
+      depth-same p m = let w = within p m in ap₂ (λ (x y : ℕ). suc (max x y)) (same (divisorOf p .a) (w .a)) (same (divisorOf p .b) (w .b))
