@@ -1,7 +1,7 @@
 //! Compile: the netlist of a matrix, written into the lent buffer.
 
 use crate::board::{Board, Operand, Operation, Output};
-use crate::elimination::{Elimination, Rows};
+use crate::elimination::{Elimination, Order, Rows};
 use crate::matrix::Matrix;
 use crate::refusal::{require, Refusal};
 use crate::width::Entries;
@@ -21,9 +21,18 @@ pub struct Compiled {
 
 /// Writes the netlist of a matrix record into the first bytes of `buffer`.
 pub fn compile(matrix: &[u8], buffer: &mut [u8]) -> Result<Compiled, Refusal> {
+    compile_by(Order::DepthThenDivisor, matrix, buffer)
+}
+
+/// Compile as it was before request A2: depth does not count among divisors of equal score. For tests alone.
+pub fn compile_without_depth(matrix: &[u8], buffer: &mut [u8]) -> Result<Compiled, Refusal> {
+    compile_by(Order::DivisorAlone, matrix, buffer)
+}
+
+fn compile_by(order: Order, matrix: &[u8], buffer: &mut [u8]) -> Result<Compiled, Refusal> {
     let matrix = Matrix::of_record(matrix)?;
     let plain = plain_count(&Rows::of_matrix(&matrix), matrix.m);
-    let elimination = Elimination::of_matrix(&matrix);
+    let elimination = Elimination::of_matrix(&matrix, order);
     let board = Board::of_elimination(&elimination, matrix.m, matrix.n);
     require(buffer.len() >= size(&board), 6, 0)?;
 
@@ -34,7 +43,7 @@ pub fn compile(matrix: &[u8], buffer: &mut [u8]) -> Result<Compiled, Refusal> {
         operations: board.operations.len() as u16,
         plain,
         divisors: elimination.divisors.len() as u16,
-        replacements: elimination.replacements as u16,
+        replacements: elimination.replacements,
         depth,
     })
 }

@@ -1,8 +1,8 @@
 //! Elimination: divisors, occurrences, scores, and the step that replaces them.
 //!
 //! A divisor's score can only fall while elimination goes on: a step takes terms of old symbols away and adds terms of its
-//! new symbol alone. So a divisor is scored when its later symbol comes into being, and again only when it is at the top of
-//! the heap; if its score has not changed then, no other divisor can have a higher one.
+//! new symbol alone. The depth of its operation never changes. So a divisor is scored when its later symbol comes into being,
+//! and again only when it is at the top of the heap; if its score has not changed then, no other divisor comes before it.
 
 use std::cmp::Reverse;
 use std::collections::binary_heap::{BinaryHeap, PeekMut};
@@ -10,7 +10,7 @@ use std::collections::binary_heap::{BinaryHeap, PeekMut};
 use crate::digits::Digits;
 use crate::matrix::{Matrix, MOST};
 
-/// (a shifted by ea) plus or minus (b shifted by eb). The order of the fields is the order among equal scores.
+/// (a shifted by ea) plus or minus (b shifted by eb). The order of the fields is the order among equal scores and depths.
 #[derive(Clone, Copy, Debug, PartialEq, Eq, PartialOrd, Ord)]
 pub(crate) struct Divisor {
     pub a: u16,
@@ -72,10 +72,10 @@ impl Rows {
         })
     }
 
-    fn score(&self, divisor: Divisor) -> u32 {
+    fn score(&self, divisor: Divisor) -> u16 {
         let a = &self.symbols[usize::from(divisor.a)];
         let b = &self.symbols[usize::from(divisor.b)];
-        let taken = |(&a, &b)| divisor.taken(a, b).count_ones();
+        let taken = |(&a, &b)| divisor.taken(a, b).count_ones() as u16;
         a.iter().zip(b).map(taken).sum()
     }
 
@@ -100,7 +100,7 @@ impl Rows {
     }
 
     /// How many occurrences each divisor of the symbols a and b has: by eb − ea + 15, then by sign.
-    fn occurrences(&self, a: usize, b: usize) -> [[u32; 2]; 31] {
+    fn occurrences(&self, a: usize, b: usize) -> [[u16; 2]; 31] {
         let mut counts = [[0; 2]; 31];
         for (in_a, in_b) in self.symbols[a].iter().zip(&self.symbols[b]) {
             for (ea, minus_a) in in_a.terms() {
@@ -114,10 +114,21 @@ impl Rows {
     }
 }
 
-/// A divisor and a score that it had, highest score first, then smallest divisor.
+/// What decides among divisors of equal score.
+#[derive(Clone, Copy, Debug)]
+pub(crate) enum Order {
+    /// The smallest depth of the operation that a divisor would become, then the smallest divisor.
+    DepthThenDivisor,
+    /// The smallest divisor alone, as before request A2.
+    DivisorAlone,
+}
+
+/// A divisor, the depth of its operation and a score that it had: highest score first, then smallest depth, then smallest
+/// divisor.
 #[derive(Clone, Copy, Debug, PartialEq, Eq, PartialOrd, Ord)]
 struct Candidate {
-    score: u32,
+    score: u16,
+    depth: Reverse<u16>,
     divisor: Reverse<Divisor>,
 }
 
@@ -125,30 +136,44 @@ struct Candidate {
 #[derive(Debug)]
 pub(crate) struct Elimination {
     pub divisors: Vec<Divisor>,
-    pub replacements: u32,
+    pub replacements: u16,
     /// At the end, the remaining rows.
     pub rows: Rows,
+    order: Order,
+    /// The depth of each symbol, or 0 where it does not count.
+    depths: Vec<u16>,
     candidates: BinaryHeap<Candidate>,
 }
 
 impl Elimination {
-    pub fn of_matrix(matrix: &Matrix) -> Self {
+    pub fn of_matrix(matrix: &Matrix, order: Order) -> Self {
         let mut elimination = Elimination {
             divisors: Vec::new(),
             replacements: 0,
             rows: Rows::of_matrix(matrix),
+            order,
+            depths: vec![0; matrix.n],
             candidates: BinaryHeap::new(),
         };
         for symbol in 0..matrix.n {
             elimination.add_candidates(symbol);
         }
-        while let Some(Candidate { score, divisor }) = elimination.pick() {
-            elimination.rows.replace(divisor.0);
-            elimination.divisors.push(divisor.0);
-            elimination.replacements += score;
+        while let Some(picked) = elimination.pick() {
+            elimination.rows.replace(picked.divisor.0);
+            elimination.divisors.push(picked.divisor.0);
+            elimination.depths.push(picked.depth.0);
+            elimination.replacements += picked.score;
             elimination.add_candidates(elimination.rows.symbols.len() - 1);
         }
         elimination
+    }
+
+    /// The depth of the operation that a divisor of these symbols would become, or 0 where it does not count.
+    fn depth(&self, a: usize, b: usize) -> u16 {
+        match self.order {
+            Order::DepthThenDivisor => 1 + self.depths[a].max(self.depths[b]),
+            Order::DivisorAlone => 0,
+        }
     }
 
     /// Adds the divisors of symbol b and each symbol up to it.
@@ -163,6 +188,7 @@ impl Elimination {
     /// Adds the divisors of two symbols whose score is at least 2.
     fn add_divisors(&mut self, a: usize, b: usize) {
         let counts = self.rows.occurrences(a, b);
+        let depth = self.depth(a, b);
         let least = if a == b { 16 } else { 0 };
         for (distance, signs) in counts.iter().enumerate().skip(least) {
             for (minus, &count) in [false, true].into_iter().zip(signs) {
@@ -182,6 +208,7 @@ impl Elimination {
                 if score >= 2 {
                     self.candidates.push(Candidate {
                         score,
+                        depth: Reverse(depth),
                         divisor: Reverse(divisor),
                     });
                 }
@@ -189,7 +216,7 @@ impl Elimination {
         }
     }
 
-    /// The divisor with the highest score, if that is at least 2.
+    /// The first of the divisors with the highest score, if that is at least 2.
     fn pick(&mut self) -> Option<Candidate> {
         while let Some(mut top) = self.candidates.peek_mut() {
             let score = self.rows.score(top.divisor.0);

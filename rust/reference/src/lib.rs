@@ -2,7 +2,8 @@
 //!
 //! It is the other side of every comparison with the verified library: tests hold the two answers against each other, and
 //! the benchmark takes it as its base. The calls have the shape of the verified library's wrappers, and a buffer that
-//! a call is lent changes only where the call is accepted.
+//! a call is lent changes only where the call is accepted. `compile_without_depth`, which the library does not have, says
+//! what netlists were before request A2.
 
 mod board;
 mod check;
@@ -21,7 +22,7 @@ mod width;
 mod literal;
 
 pub use check::check;
-pub use compile::{compile, Compiled};
+pub use compile::{compile, compile_without_depth, Compiled};
 pub use generator::generate;
 pub use read::{read, Netlist};
 pub use record::{step, Record};

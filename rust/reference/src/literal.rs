@@ -1,7 +1,9 @@
 //! Elimination word for word, to hold the fast one against: every pair of every row is looked at in every step.
 
+use std::cmp::Reverse;
+
 use crate::digits::Digits;
-use crate::elimination::{Divisor, Elimination};
+use crate::elimination::{Divisor, Elimination, Order};
 use crate::matrix::Matrix;
 
 #[derive(Clone, Copy, Debug, PartialEq, Eq, PartialOrd, Ord)]
@@ -83,22 +85,41 @@ fn overlap(one: &Occurrence, other: &Occurrence) -> bool {
     one.row == other.row && one.pair.iter().any(|term| other.pair.contains(term))
 }
 
-/// The divisor with the highest score, the smallest among equals, and the occurrences taken.
-fn pick(rows: &Rows) -> Option<(Divisor, Vec<Occurrence>)> {
-    let mut best: Option<(Divisor, Vec<Occurrence>)> = None;
-    let mut found = all_occurrences(rows).into_iter().peekable();
-    while let Some((divisor, occurrence)) = found.next() {
-        let mut taken = vec![occurrence];
-        while let Some((_, next)) = found.next_if(|(next, _)| *next == divisor) {
-            if !taken.iter().any(|earlier| overlap(earlier, &next)) {
-                taken.push(next);
+/// A divisor and the occurrences taken.
+type Taken = (Divisor, Vec<Occurrence>);
+
+fn all_taken(rows: &Rows) -> Vec<Taken> {
+    let mut all: Vec<Taken> = Vec::new();
+    for (divisor, occurrence) in all_occurrences(rows) {
+        match all.last_mut() {
+            Some((last, taken)) if *last == divisor => {
+                if !taken.iter().any(|earlier| overlap(earlier, &occurrence)) {
+                    taken.push(occurrence);
+                }
             }
-        }
-        if taken.len() > best.as_ref().map_or(0, |(_, most)| most.len()) {
-            best = Some((divisor, taken));
+            _ => all.push((divisor, vec![occurrence])),
         }
     }
-    best.filter(|(_, taken)| taken.len() >= 2)
+    all
+}
+
+/// The depth of the operation that a divisor would become, from those of the symbols.
+fn depth(divisor: &Divisor, depths: &[u16]) -> u16 {
+    let [a, b] = [divisor.a, divisor.b].map(|symbol| depths[usize::from(symbol)]);
+    1 + a.max(b)
+}
+
+/// Of the divisors with the highest score the first in the order, and the occurrences taken.
+fn pick(rows: &Rows, depths: &[u16], order: Order) -> Option<Taken> {
+    let rank = |(divisor, taken): &Taken| {
+        let counted = match order {
+            Order::DepthThenDivisor => depth(divisor, depths),
+            Order::DivisorAlone => 0,
+        };
+        (taken.len(), Reverse(counted), Reverse(*divisor))
+    };
+    let first = all_taken(rows).into_iter().max_by_key(rank);
+    first.filter(|(_, taken)| taken.len() >= 2)
 }
 
 fn replace(rows: &mut Rows, symbol: u16, taken: &[Occurrence]) {
@@ -115,13 +136,15 @@ fn replace(rows: &mut Rows, symbol: u16, taken: &[Occurrence]) {
 }
 
 /// Divisors, replacements and remaining rows.
-fn eliminate(matrix: &Matrix) -> (Vec<Divisor>, u32, Rows) {
+fn eliminate(matrix: &Matrix, order: Order) -> (Vec<Divisor>, u16, Rows) {
     let (mut rows, mut divisors, mut replacements) = (matrix_rows(matrix), Vec::new(), 0);
-    while let Some((divisor, taken)) = pick(&rows) {
+    let mut depths = vec![0; matrix.n];
+    while let Some((divisor, taken)) = pick(&rows, &depths, order) {
         let symbol = (matrix.n + divisors.len()) as u16;
         replace(&mut rows, symbol, &taken);
+        depths.push(depth(&divisor, &depths));
         divisors.push(divisor);
-        replacements += taken.len() as u32;
+        replacements += taken.len() as u16;
     }
     (divisors, replacements, rows)
 }
@@ -134,9 +157,9 @@ fn matrix(m: usize, n: usize, mut coefficient: impl FnMut() -> i16) -> Matrix {
     Matrix { m, n, rows }
 }
 
-fn assert_same(matrix: &Matrix) {
-    let fast = Elimination::of_matrix(matrix);
-    let (divisors, replacements, rows) = eliminate(matrix);
+fn assert_same(matrix: &Matrix, order: Order) {
+    let fast = Elimination::of_matrix(matrix, order);
+    let (divisors, replacements, rows) = eliminate(matrix, order);
     assert_eq!(fast.divisors, divisors, "{:?}", matrix.rows);
     assert_eq!(fast.replacements, replacements, "{:?}", matrix.rows);
     for (row, terms) in rows.iter().enumerate() {
@@ -153,7 +176,7 @@ fn assert_same(matrix: &Matrix) {
 #[test]
 fn fast_and_literal_elimination_agree_on_every_coefficient() {
     for coefficient in i16::MIN..=i16::MAX {
-        assert_same(&matrix(1, 1, || coefficient));
+        assert_same(&matrix(1, 1, || coefficient), Order::DepthThenDivisor);
     }
 }
 
@@ -163,14 +186,18 @@ fn fast_and_literal_elimination_agree_on_spread_matrices() {
     for _ in 0..400 {
         let (m, n) = (random.between(1, 8), random.between(1, 8));
         let bits = random.between(1, 16) as u32;
-        assert_same(&matrix(m, n, || random.coefficient(bits)));
+        let matrix = matrix(m, n, || random.coefficient(bits));
+        assert_same(&matrix, Order::DepthThenDivisor);
+        assert_same(&matrix, Order::DivisorAlone);
     }
 }
 
 #[test]
 fn twenty_one_has_score_one() {
     let twenty_one = matrix(1, 1, || 21);
-    let score = |(_, taken): (Divisor, Vec<Occurrence>)| taken.len();
-    assert_eq!(pick(&matrix_rows(&twenty_one)).map(score), None);
-    assert!(Elimination::of_matrix(&twenty_one).divisors.is_empty());
+    let divisors = all_taken(&matrix_rows(&twenty_one));
+    let scores: Vec<usize> = divisors.iter().map(|(_, taken)| taken.len()).collect();
+    assert_eq!(scores, [1, 1]);
+    let fast = Elimination::of_matrix(&twenty_one, Order::DepthThenDivisor);
+    assert!(fast.divisors.is_empty());
 }

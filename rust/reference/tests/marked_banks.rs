@@ -1,7 +1,8 @@
-//! Document 01's marked banks and its example.
+//! Document 01's marked banks, its example, and a bank in which depth decides.
 
 use cases::Matrix;
-use reference::{check, compile, read, run, step, Compiled, Netlist, Refusal};
+use reference::{check, compile, compile_without_depth, read, run, step};
+use reference::{Compiled, Netlist, Refusal};
 
 fn compiled(rows: &[&[i16]]) -> (Compiled, Vec<u8>) {
     let matrix = Matrix::of_rows(rows);
@@ -92,4 +93,21 @@ fn three_minus_three() {
         place: 0,
     };
     assert_eq!(run(&netlist, &[1], &mut []), Err(samples));
+}
+
+/// Worked out by hand. (0<<0) + (0<<2) comes first and gets symbol 2; then (0<<4) − (2<<0) has score 2 and depth 2, and
+/// (1<<0) − (1<<2) score 2 and depth 1.
+#[test]
+fn shallower_divisor_first() {
+    let rows: [&[i16]; 2] = [&[11, 3], &[11, 6]];
+    let first = [12, 0, 3, 0, 0, 0, 0, 0, 0, 0, 2, 19];
+    let deep = [12, 0, 3, 0, 1, 0, 0, 4, 2, 0, 0, 20];
+    let shallow = [12, 0, 3, 0, 1, 1, 0, 0, 1, 0, 2, 18];
+    let (bank, netlist) = compiled(&rows);
+    assert_eq!((bank.divisors, bank.replacements, bank.depth), (3, 6, 3));
+    assert_eq!(netlist[8..44], [first, shallow, deep].concat());
+
+    let mut buffer = [0; 6136];
+    compile_without_depth(&Matrix::of_rows(&rows).record(), &mut buffer).unwrap();
+    assert_eq!(buffer[8..44], [first, deep, shallow].concat());
 }
