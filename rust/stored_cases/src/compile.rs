@@ -6,7 +6,9 @@ use cases::{filled, Matrix};
 use reference::returned;
 
 use crate::case::{Call, Case};
-use crate::matrices::{matrices, netlist, refused_records, three_minus_three, ROOM};
+use crate::matrices::{
+    banks_with_equal_scores, matrices, netlist, refused_records, three_minus_three, ROOM,
+};
 
 /// What a lent buffer holds before.
 const OLD: u8 = 0xA5;
@@ -21,7 +23,7 @@ pub fn cases() -> Vec<Case> {
 /// Lengths of the buffer, and matrix records.
 fn inputs() -> Vec<(usize, Vec<u8>)> {
     let mut all = Vec::new();
-    for matrix in matrices() {
+    for matrix in [matrices(), banks_with_equal_scores()].concat() {
         let record = matrix.record();
         all.push((netlist(&record).len() + matrix.m(), record));
     }
@@ -56,4 +58,28 @@ fn case(room: usize, record: &[u8]) -> Case {
     }
     printed.push('\n');
     Case::of_call(Call::Compile, [room, record.len()], record, printed)
+}
+
+#[cfg(test)]
+mod tests {
+    use std::collections::HashSet;
+
+    use super::*;
+
+    /// Before request A2 the depth of a divisor's operation did not count among equal scores.
+    #[test]
+    fn at_least_fifty_stored_matrices_have_other_bytes_than_before_request_a2() {
+        let records: HashSet<Vec<u8>> = inputs().into_iter().map(|(_, record)| record).collect();
+        let differs = |record: &&Vec<u8>| {
+            let (mut now, mut before) = ([OLD; ROOM], [OLD; ROOM]);
+            let answers = [
+                reference::compile(record, &mut now),
+                reference::compile_without_depth(record, &mut before),
+            ];
+            answers.iter().all(Result::is_ok) && now != before
+        };
+        let count = records.iter().filter(differs).count();
+        println!("{count} stored matrices have other bytes than before request A2");
+        assert!(count >= 50, "only {count} stored matrices have other bytes");
+    }
 }

@@ -73,6 +73,19 @@ pub fn matrices() -> Vec<Matrix> {
     all
 }
 
+/// Banks of 4 to 6 rows and columns, for compile alone: in most of them depth decides somewhere among divisors of equal score.
+pub fn banks_with_equal_scores() -> Vec<Matrix> {
+    let mut random = MersenneTwister::new(&[20_261_116]);
+    let sizes = (4..=6).flat_map(|m| (4..=6).map(move |n| (m, n)));
+    let mut all = Vec::new();
+    for (m, n) in sizes {
+        for _ in 0..6 {
+            all.push(filled(m, n, || random.between(-32_768, 32_767) as i16));
+        }
+    }
+    all
+}
+
 /// Matrix records that are refused, with 1 to 5.
 pub fn refused_records() -> Vec<Vec<u8>> {
     let right = three_minus_three().record();
