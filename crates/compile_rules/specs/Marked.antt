@@ -41,7 +41,8 @@ threeMinusThreeAnswer =
 pub record MarkedBanks : Type 0 where
   -- 0 none; 6 = 8 − 2; 23 = 32 − 8 − 1; 32,767 = 2^15 − 1; −32,768 = −2^15; 21,845 has eight
   pub digits : MarkedDigits
-  -- 21: score 1, no divisor; 85: 1 + L^2 taken at 0 and 4; 1,365: at 0, 4, 8; four rows: plain 12, four divisors, 8 replacements
+  -- 21: score 1, no divisor; 85: 1 + L^2 taken at 0 and 4; 1,365: at 0, 4, 8; four rows: plain 12, four divisors, 8 replacements;
+  -- sums of five: depth decides
   pub elimination : MarkedElimination
   -- 1 by 1 matrix 21: 2 operations
   pub operations-21 : netlistFor 1 1 (single 21) .head .operations ≡ 2

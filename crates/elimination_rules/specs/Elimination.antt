@@ -20,11 +20,12 @@ TieOrder = List Divisor → Divisor → Divisor → Bool
 abbrev pub divisorDepth : List ℕ → Divisor → ℕ
 divisorDepth depths d = suc (max (getD depths (d .a) 0) (getD depths (d .b) 0))
 
--- inputs having 0 and each divisor made so far its own
+-- the depths of the symbols, from those of the earlier ones on: each divisor made so far has its own
 unfoldable pub symbolDepthsFrom : List ℕ → List Divisor → List ℕ
 symbolDepthsFrom depths [] = depths
 symbolDepthsFrom depths (d ∷ ds) = symbolDepthsFrom (depths ++ (divisorDepth depths d ∷ [])) ds
 
+-- inputs have 0
 unfoldable pub symbolDepths : ℕ → List Divisor → List ℕ
 unfolding symbolDepthsFrom
 symbolDepths inputs made = symbolDepthsFrom (replicate inputs 0) made
@@ -36,11 +37,11 @@ smaller x y otherwise = ltb x y || (eqb x y && otherwise)
 abbrev pub before : Divisor → Divisor → Bool
 before d e = smaller (d .a) (e .a) (smaller (d .b) (e .b) (smaller (d .ea) (e .ea) (smaller (d .eb) (e .eb) (not (d .minus) && e .minus))))
 
--- the smallest depth, then that
+-- the smallest depth, then the smallest a, and so on
 abbrev pub shallower : List ℕ → Divisor → Divisor → Bool
 shallower depths d e = smaller (divisorDepth depths d) (divisorDepth depths e) (before d e)
 
--- document 01's, for a number of inputs
+-- document 01's order, for a number of inputs
 unfoldable pub shallowestFirst : ℕ → TieOrder
 unfolding symbolDepths
 shallowestFirst inputs made = shallower (symbolDepths inputs made)

@@ -1,4 +1,4 @@
-//! Document 01's marked banks, its example, and a bank in which depth decides.
+//! Document 01's marked banks and its example.
 
 use cases::Matrix;
 use reference::{check, compile, compile_without_depth, read, run, step};
@@ -95,14 +95,14 @@ fn three_minus_three() {
     assert_eq!(run(&netlist, &[1], &mut []), Err(samples));
 }
 
-/// Worked out by hand. (0<<0) + (0<<2) comes first and gets symbol 2; then (0<<4) − (2<<0) has score 2 and depth 2, and
-/// (1<<0) − (1<<2) score 2 and depth 1.
+/// (0<<0) + (1<<0) comes first and gets symbol 5; then (2<<0) + (5<<0) and (3<<0) + (4<<0) have score 2, and the second the
+/// smaller depth.
 #[test]
-fn shallower_divisor_first() {
-    let rows: [&[i16]; 2] = [&[11, 3], &[11, 6]];
-    let first = [12, 0, 3, 0, 0, 0, 0, 0, 0, 0, 2, 19];
-    let deep = [12, 0, 3, 0, 1, 0, 0, 4, 2, 0, 0, 20];
-    let shallow = [12, 0, 3, 0, 1, 1, 0, 0, 1, 0, 2, 18];
+fn sums_of_five() {
+    let rows: [&[i16]; 3] = [&[1, 1, 1, 1, 1], &[1, 1, 1, 0, 0], &[0, 0, 0, 1, 1]];
+    let first = [12, 0, 3, 0, 0, 0, 0, 0, 1, 0, 0, 17];
+    let deep = [12, 0, 3, 0, 0, 2, 0, 0, 5, 0, 0, 18];
+    let shallow = [12, 0, 3, 0, 0, 3, 0, 0, 4, 0, 0, 17];
     let (bank, netlist) = compiled(&rows);
     assert_eq!((bank.divisors, bank.replacements, bank.depth), (3, 6, 3));
     assert_eq!(netlist[8..44], [first, shallow, deep].concat());
