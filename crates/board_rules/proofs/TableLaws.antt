@@ -9,7 +9,7 @@ use native.Mathlib.Decide.{decLt, ℕ-discrete}
 use lib.IntN.{ℤ, pos}
 use lib.ListN.{length, getD, set, take, drop, replicate, length-set, length-append, length-replicate}
 use lib.Seq.{sets, length-sets, drop-cons, getD-set-same, getD-set-other, getD-take, take-suc-set}
-use Rattle.limits.specs.Limits.{maxColumns, maxSymbols}
+use Rattle.limits.specs.Limits.{maxColumns, maxOperations, maxSymbols}
 use Rattle.layout_rules.specs.declared.Operation.{Operation}
 use Rattle.layout_rules.specs.declared.Output.{Output}
 use Rattle.board_rules.specs.Machine.{entryAt, operationValue, machine, operationDepth, depths, outputValue, unit, entryForm, outputForm}
@@ -178,7 +178,7 @@ module _ (n : ℕ) (os : List Operation) (table : List ℤ) (H : HoldsForms n os
 -- ---- values
 
 -- what stands in the front of a table
-pub front-at : {A : Type 0} (d : A) (table : List A) {front : List A} (k : ℕ) → take k table ≡ front → (i : ℕ) → i < k → getD table i d ≡ getD front i d
+front-at : {A : Type 0} (d : A) (table : List A) {front : List A} (k : ℕ) → take k table ≡ front → (i : ℕ) → i < k → getD table i d ≡ getD front i d
 front-at d table k e i h = sym (getD-take k table i d h) ∙ ap (λ l. getD l i d) e
 
 -- if the table's front is the machine's list, it is so after one operation more
@@ -202,10 +202,14 @@ module _ (n : ℕ) (os : List Operation) (table : List ℕ) (H : HoldsDepths n o
   pub depth-at : (symbol : ℕ) → symbol < n + length os → getD table symbol 0 ≡ getD (depths (replicate n 0) os) symbol 0
   depth-at = front-at 0 table (n + length os) (H .held)
 
-  pub depth-small : (symbol : ℕ) → symbol < n + length os → getD table symbol 0 ≤ length os
+  depth-small : (symbol : ℕ) → symbol < n + length os → getD table symbol 0 ≤ length os
   depth-small symbol h = omega (arith, depth-at symbol h, depths-at-most n os symbol)
 
   module _ (o : Operation) (ha : o .a < n + length os) (hb : o .b < n + length os) where
+    -- those of an operation's operands leave room for 1 more in 16 bits
+    pub operands-fit : length os ≤ maxOperations → (getD table (o .a) 0 < 65535) × (getD table (o .b) 0 < 65535)
+    operands-fit few = (omega (arith, depth-small (o .a) ha), omega (arith, depth-small (o .b) hb))
+
     pub operation-depth-at : operationDepth table o ≡ operationDepth (depths (replicate n 0) os) o
     operation-depth-at = ap₂ (λ (x y : ℕ). suc (max x y)) (depth-at (o .a) ha) (depth-at (o .b) hb)
 

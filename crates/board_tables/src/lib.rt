@@ -5,7 +5,7 @@ use layout_rules::Operation;
 use limits::MAX_COLUMNS;
 use limits::MAX_SYMBOLS;
 ghost use mathlib.Core.Path.{_≡_};
-ghost use Prim.Native.Nat.{_+_, _*_, _-_, _≤_, _<_, max};
+ghost use Prim.Native.Nat.{_+_, _*_, _-_, _≤_, _<_};
 ghost use lib.IntN.{pos};
 ghost use lib.ListN.{getD};
 ghost use lib.Seq.{sets};
@@ -105,13 +105,6 @@ pub fn append_value(values: &mut [i64; MAX_SYMBOLS], o: Operation, symbol: usize
     let y = values[b];
     let z = combined(o.sign, x, o.sa, y, o.sb);
     values[symbol] = z;
-}
-
-// The deeper of two.
-pub fn deeper(a: u16, b: u16) -> u16
-    ensures { λ r. ⌜ r ≡ max a b ⌝ }
-{
-    if a < b { b } else { a }
 }
 
 pub fn blank_forms() -> [i64; FORMS_LENGTH]

@@ -9,7 +9,7 @@ use Rattle.limits.specs.Limits.{maxColumns, positions, maxOperations, termSymbo
 use Rattle.elimination_rules.specs.declared.Divisor.{Divisor}
 use Rattle.elimination_rules.specs.Rows.{Row, plainCount}
 use Rattle.elimination_rules.specs.Divisors.{score}
-use Rattle.elimination_rules.specs.Elimination.{symbolDepths, shallower, shallowestFirst, Scored, pick, rowsAfter, Eliminated, eliminate, elimination}
+use Rattle.elimination_rules.specs.Elimination.{TieOrder, symbolDepths, shallower, shallowestFirst, Scored, pick, rowsAfter, Eliminated, eliminate, elimination}
 use Rattle.elimination_rules.proofs.Order.{DivisorWithin, divisor-within}
 use Rattle.elimination_rules.proofs.Counts.{plain-after}
 use Rattle.elimination_rules.proofs.Pick.{pick-score}
@@ -20,42 +20,43 @@ use Rattle.elimination_rows.proofs.Ready.{ready-below, ready-after}
 use Rattle.layout_rules.specs.declared.Operation.{Operation}
 use Rattle.board_rules.specs.Machine.{operationDepth, depths}
 use Rattle.board_rules.specs.Table.{filled, HoldsDepths}
-use Rattle.board_rules.proofs.TableLaws.{depths-started, depth-at, depth-small, depths-appended}
+use Rattle.board_rules.proofs.TableLaws.{depths-started, depth-at, operands-fit, depths-appended}
 use Rattle.compile_rules.specs.Chains.{divisorOperation}
 use Rattle.compile_rules.proofs.Depths.{symbol-depths}
 
--- what is left to do, and what it comes to with what was done
-abbrev restOf : ℕ → ℕ → List Divisor → List Row → Eliminated
-restOf n symbol made rows = eliminate (shallowestFirst n) (plainCount rows) symbol made rows
+-- what is left to do, by any order among equal scores, and what it comes to with what was done
+module _ (order : TieOrder) where
+  abbrev restOf : ℕ → List Divisor → List Row → Eliminated
+  restOf symbol made rows = eliminate order (plainCount rows) symbol made rows
 
-abbrev withRest : List Divisor → ℕ → Eliminated → Eliminated
-withRest made k e = record { divisors = made ++ e .divisors; replacements = k + e .replacements; remainingRows = e .remainingRows }
+  abbrev withRest : List Divisor → ℕ → Eliminated → Eliminated
+  withRest made k e = record { divisors = made ++ e .divisors; replacements = k + e .replacements; remainingRows = e .remainingRows }
 
-rest-start : (n : ℕ) (rows : List Row) → withRest [] 0 (restOf n n [] rows) ≡ elimination (shallowestFirst n) n rows
-unfolding elimination
-rest-start n rows =
-    let e : Eliminated = restOf n n [] rows in
-    ap (λ (k : ℕ). record { divisors = e .divisors; replacements = k; remainingRows = e .remainingRows }) (omega arith)
+  rest-start : (n : ℕ) (rows : List Row) → withRest [] 0 (restOf n [] rows) ≡ elimination order n rows
+  unfolding elimination
+  rest-start n rows =
+      let e : Eliminated = restOf n [] rows in
+      ap (λ (k : ℕ). record { divisors = e .divisors; replacements = k; remainingRows = e .remainingRows }) (omega arith)
 
-module _ (n symbol : ℕ) (made : List Divisor) (k : ℕ) (rows : List Row) where
-  abbrev best : Scored
-  best = pick (shallowestFirst n made) rows
+  module _ (symbol : ℕ) (made : List Divisor) (k : ℕ) (rows : List Row) where
+    abbrev best : Scored
+    best = pick (order made) rows
 
-  rest-ends : best .score < 2 → record { divisors = made; replacements = k; remainingRows = rows } ≡ withRest made k (restOf n symbol made rows)
-  rest-ends h =
-      let none : k ≡ k + 0 = omega arith in
-      ap₂ (λ (ds : List Divisor) (j : ℕ). record { divisors = ds; replacements = j; remainingRows = rows }) (sym (append-nil made)) none
-      ∙ ap (withRest made k) (sym (from-ends (shallowestFirst n) symbol made rows h))
+    rest-ends : best .score < 2 → record { divisors = made; replacements = k; remainingRows = rows } ≡ withRest made k (restOf symbol made rows)
+    rest-ends h =
+        let none : k ≡ k + 0 = omega arith in
+        ap₂ (λ (ds : List Divisor) (j : ℕ). record { divisors = ds; replacements = j; remainingRows = rows }) (sym (append-nil made)) none
+        ∙ ap (withRest made k) (sym (from-ends order symbol made rows h))
 
-  rest-goes-on : 2 ≤ best .score
-      → withRest (made ++ (best .divisor ∷ [])) (k + best .score) (restOf n (suc symbol) (made ++ (best .divisor ∷ [])) (rowsAfter symbol (best .divisor) rows))
-      ≡ withRest made k (restOf n symbol made rows)
-  rest-goes-on h =
-      let e : Eliminated = restOf n (suc symbol) (made ++ (best .divisor ∷ [])) (rowsAfter symbol (best .divisor) rows) in
-      let sum : (k + best .score) + e .replacements ≡ k + (best .score + e .replacements) = omega arith in
-      ap₂ (λ (ds : List Divisor) (j : ℕ). record { divisors = ds; replacements = j; remainingRows = e .remainingRows })
-      (append-assoc made (best .divisor ∷ []) (e .divisors)) sum
-      ∙ ap (withRest made k) (sym (from-goes-on (shallowestFirst n) symbol made rows h))
+    rest-goes-on : 2 ≤ best .score
+        → withRest (made ++ (best .divisor ∷ [])) (k + best .score) (restOf (suc symbol) (made ++ (best .divisor ∷ [])) (rowsAfter symbol (best .divisor) rows))
+        ≡ withRest made k (restOf symbol made rows)
+    rest-goes-on h =
+        let e : Eliminated = restOf (suc symbol) (made ++ (best .divisor ∷ [])) (rowsAfter symbol (best .divisor) rows) in
+        let sum : (k + best .score) + e .replacements ≡ k + (best .score + e .replacements) = omega arith in
+        ap₂ (λ (ds : List Divisor) (j : ℕ). record { divisors = ds; replacements = j; remainingRows = e .remainingRows })
+        (append-assoc made (best .divisor ∷ []) (e .divisors)) sum
+        ∙ ap (withRest made k) (sym (from-goes-on order symbol made rows h))
 
 -- ---- before each step
 
@@ -68,7 +69,7 @@ pub record BeforeStep (n : ℕ) (first : List Row) (symbol : ℕ) (operations : 
   pub next-symbol : symbol ≡ n + length made
   pub few : 2 * length made + plainCount rows ≤ maxOperations
   pub replaced : k + plainCount rows ≤ maxOperations
-  pub rest : withRest made k (restOf n symbol made rows) ≡ elimination (shallowestFirst n) n first
+  pub rest : withRest (shallowestFirst n) made k (restOf (shallowestFirst n) symbol made rows) ≡ elimination (shallowestFirst n) n first
 
 pub before-first : (n : ℕ) (rows : List Row) (table : List ℕ) → Ready n rows → n ≤ maxColumns → plainCount rows ≤ maxOperations → table ≡ filled maxSymbols 0
     → BeforeStep n rows n [] table 0 rows
@@ -81,7 +82,7 @@ before-first n rows table ready columns few blank =
       next-symbol = omega arith;
       few = omega (arith, few);
       replaced = omega (arith, few);
-      rest = rest-start n rows;
+      rest = rest-start (shallowestFirst n) n rows;
     }
 
 module _ {n : ℕ} {first : List Row} {symbol : ℕ} {operations : List Operation} {table : List ℕ} {k : ℕ} {rows : List Row}
@@ -94,7 +95,7 @@ module _ {n : ℕ} {first : List Row} {symbol : ℕ} {operations : List Operatio
   within-table h = ready-below symbol termSymbols (omega (arith, b .next-symbol, b .few)) rows (b .ready)
 
   -- the depths in the table are those of the divisors made so far
-  pub pick-by-table : pick (shallower table) rows ≡ pick (shallowestFirst n (b .made)) rows
+  pick-by-table : pick (shallower table) rows ≡ pick (shallowestFirst n (b .made)) rows
   unfolding shallowestFirst
   pick-by-table = pick-by-depths positions symbol rows (b .ready .well-formed) table (symbolDepths n (b .made)) (λ s h.
       depth-at n operations table (b .depths-held) s (omega (arith, length-made, b .next-symbol))
@@ -102,16 +103,16 @@ module _ {n : ℕ} {first : List Row} {symbol : ℕ} {operations : List Operatio
       ∙ ap (λ (ds : List ℕ). getD ds s 0) (sym (symbol-depths n (b .made))))
 
   module _ (best : Scored) (found : best ≡ pick (shallower table) rows) where
-    is : best ≡ pick (shallowestFirst n (b .made)) rows
-    is = found ∙ pick-by-table
+    picked : best ≡ pick (shallowestFirst n (b .made)) rows
+    picked = found ∙ pick-by-table
 
     pub ended-is : best .score < 2 → record { divisors = b .made; replacements = k; remainingRows = rows } ≡ elimination (shallowestFirst n) n first
-    ended-is h = rest-ends n symbol (b .made) k rows (rw is at h) ∙ b .rest
+    ended-is h = rest-ends (shallowestFirst n) symbol (b .made) k rows (rw picked at h) ∙ b .rest
 
     module _ (h : 2 ≤ best .score) where
       -- its score is that of its divisor
       scores : best .score ≡ score (best .divisor) rows
-      scores = rw is (pick-score (shallowestFirst n (b .made)) rows (rw is at h))
+      scores = rw picked (pick-score (shallowestFirst n (b .made)) rows (rw picked at h))
 
       -- a step takes as many terms as its score
       pub plain-less : plainCount (rowsAfter symbol (best .divisor) rows) + best .score ≡ plainCount rows
@@ -128,10 +129,9 @@ module _ {n : ℕ} {first : List Row} {symbol : ℕ} {operations : List Operatio
       earlier = (within .a, within .b)
 
       pub depths-small : (getD table (best .divisor .a) 0 < 65535) × (getD table (best .divisor .b) 0 < 65535)
-      depths-small = (small (best .divisor .a) (within .a), small (best .divisor .b) (within .b))
-        where
-          small : (s : ℕ) → s < symbol → getD table s 0 < 65535
-          small s l = omega (arith, depth-small n operations table (b .depths-held) s (omega (arith, length-made, b .next-symbol)), length-made, b .few)
+      depths-small =
+          operands-fit n operations table (b .depths-held) (divisorOperation (best .divisor))
+          (omega (arith, length-made, b .next-symbol, within .a)) (omega (arith, length-made, b .next-symbol, within .b)) (omega (arith, length-made, b .few))
 
       pub before-next : n ≤ maxColumns → (after : List Operation) → after ≡ operations ++ (divisorOperation (best .divisor) ∷ [])
           → BeforeStep n first (suc symbol) after (set table symbol (operationDepth table (divisorOperation (best .divisor)))) (k + best .score) (rowsAfter symbol (best .divisor) rows)
@@ -148,5 +148,5 @@ module _ {n : ℕ} {first : List Row} {symbol : ℕ} {operations : List Operatio
             next-symbol = omega (arith, l, b .next-symbol);
             few = omega (arith, l, plain-less, b .few);
             replaced = omega (arith, plain-less, b .replaced);
-            rest = rw is (rest-goes-on n symbol (b .made) k rows (rw is at h)) ∙ b .rest;
+            rest = rw picked (rest-goes-on (shallowestFirst n) symbol (b .made) k rows (rw picked at h)) ∙ b .rest;
           }

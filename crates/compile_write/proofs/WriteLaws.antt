@@ -20,7 +20,7 @@ use Rattle.board_rules.specs.Machine.{entryForm, operationDepth, depth}
 use Rattle.board_rules.specs.Width.{width}
 use Rattle.board_rules.specs.Table.{formsLength, tableCoefficient, row, operationCoefficient, operationRow, formAppended, HoldsForms, HoldsDepths, SmallForms, SmallRange}
 use Rattle.board_rules.proofs.FormLaws.{columns-at, columns-same, length-columns, entry-form-keeps}
-use Rattle.board_rules.proofs.TableLaws.{sets-inside, operation-row-is, output-row-is, appended-holds, depth-small, operation-depth-at, depths-appended}
+use Rattle.board_rules.proofs.TableLaws.{sets-inside, operation-row-is, output-row-is, appended-holds, operands-fit, operation-depth-at, depths-appended}
 use Rattle.board_rules.proofs.DepthLaws.{depth-snoc}
 use Rattle.board_rules.proofs.BoundLaws.{compiled-shifted, forms-small, appended-range-small, output-row-range-small}
 use Rattle.compile_lists.specs.Lists.{noOperation, noOutput}
@@ -157,29 +157,29 @@ module _ (n : ℕ) (os : List Operation) where
     up-to-next : take k os ++ (getD os k noOperation ∷ []) ≡ take (suc k) os
     up-to-next = sym (take-suc os k noOperation h)
 
-    written-before : length (take k os) ≡ k
-    written-before = length-take-le k os (omega arith)
+    length-front : length (take k os) ≡ k
+    length-front = length-take-le k os (omega arith)
 
-    pub earlier-depth : (symbol : ℕ) → symbol < n + k → getD table symbol 0 < 65535
-    earlier-depth symbol l = omega (arith, written-before, depth-small n (take k os) table H symbol (omega (arith, written-before)), w .few)
+    first-earlier : getD os k noOperation .a < n + length (take k os)
+    first-earlier = omega (arith, length-front, w .operation k h .first-earlier)
 
-    first : getD os k noOperation .a < n + length (take k os)
-    first = omega (arith, written-before, w .operation k h .first-earlier)
+    second-earlier : getD os k noOperation .b < n + length (take k os)
+    second-earlier = omega (arith, length-front, w .operation k h .second-earlier)
 
-    second : getD os k noOperation .b < n + length (take k os)
-    second = omega (arith, written-before, w .operation k h .second-earlier)
+    pub earlier-depths : (getD table (getD os k noOperation .a) 0 < 65535) × (getD table (getD os k noOperation .b) 0 < 65535)
+    earlier-depths = operands-fit n (take k os) table H (getD os k noOperation) first-earlier second-earlier (omega (arith, length-front, w .few))
 
     pub depths-next : HoldsDepths n (take (suc k) os) (set table (n + k) (operationDepth table (getD os k noOperation)))
     depths-next =
         let o : Operation = getD os k noOperation in
         rw (← up-to-next)
-        (subst (λ (j : ℕ). HoldsDepths n (take k os ++ (o ∷ [])) (set table (n + j) (operationDepth table o))) written-before
-        (depths-appended n (take k os) table H o first second (omega (arith, written-before, w .few, w .inputs))))
+        (subst (λ (j : ℕ). HoldsDepths n (take k os ++ (o ∷ [])) (set table (n + j) (operationDepth table o))) length-front
+        (depths-appended n (take k os) table H o first-earlier second-earlier (omega (arith, length-front, w .few, w .inputs))))
 
     pub depth-next : max (depth n (take k os)) (operationDepth table (getD os k noOperation)) ≡ depth n (take (suc k) os)
     depth-next =
         let o : Operation = getD os k noOperation in
-        ap (max (depth n (take k os))) (operation-depth-at n (take k os) table H o first second) ∙ sym (depth-snoc n (take k os) o) ∙ ap (depth n) up-to-next
+        ap (max (depth n (take k os))) (operation-depth-at n (take k os) table H o first-earlier second-earlier) ∙ sym (depth-snoc n (take k os) o) ∙ ap (depth n) up-to-next
 
 -- ---- outputs
 

@@ -113,7 +113,7 @@ fn depth_of(operations: Operations, n: usize) -> u16
     for k in 0..count {
         let depth = board_tables::operation_depth(&depths, operations.operation(k));
         depths[n + k] = depth;
-        largest = board_tables::deeper(largest, depth);
+        largest = integers::larger(largest, depth);
     }
     largest
 }

@@ -1,5 +1,4 @@
-// Document 01, "Elimination": the order among equal scores, a divisor's place in it as one number. Rests on `elimination_rules` and
-// `board_tables`.
+// Document 01, "Elimination": a divisor's place in the order among equal scores, as one number. Rests on `elimination_rules`.
 use elimination_rules::Divisor;
 use limits::MAX_SYMBOLS;
 ghost use mathlib.Core.Path.{_≡_};
@@ -7,7 +6,7 @@ ghost use Prim.Native.Nat.{_<_};
 ghost use Rattle.limits.specs.Limits.{maxSymbols};
 ghost use Rattle.elimination_rules.specs.Rank.{signKey, divisorKey, divisorRank};
 
-// So many values have room for a symbol, and for an exponent.
+// A symbol and an exponent have room for so many values.
 const SYMBOL_ROOM: u64 = 512;
 
 const EXPONENT_ROOM: u64 = 32;
@@ -30,13 +29,13 @@ fn key(d: Divisor) -> u64
     exponents * 2 + sign_key(d.minus)
 }
 
-// The smallest depth, then that. Of divisors with the highest score, the one of the lowest rank is picked.
+// The smallest depth, then the smallest key. Of divisors with the highest score, the one of the lowest rank is picked.
 pub fn rank(depths: &[u16; MAX_SYMBOLS], d: Divisor) -> u64
     requires { ⌜ (d .a < maxSymbols) × (d .b < maxSymbols) ⌝ }
     ensures { λ r. ⌜ r ≡ divisorRank (now (depths .entry)) d ⌝ }
 {
     let a = d.a as usize;
     let b = d.b as usize;
-    let deeper = board_tables::deeper(depths[a], depths[b]);
-    deeper as u64 * KEY_ROOM + key(d)
+    let depth = integers::larger(depths[a], depths[b]) as u64 + 1;
+    depth * KEY_ROOM + key(d)
 }

@@ -18,7 +18,7 @@ use Rattle.elimination_rules.specs.Divisors.{Pair, divisorOf, pairsWith, pairsO
 use Rattle.elimination_rules.specs.Elimination.{shallower, Scored, better, noPairs, allPairs, pick}
 use Rattle.elimination_rules.specs.Rank.{lowerRank}
 use Rattle.elimination_rules.specs.Lookup.{Proper, Signs, rowsSigns, lookupScored, lookupBest, lookupPick}
-use Rattle.elimination_rules.proofs.Tests.{by-bool, by-test}
+use Rattle.elimination_rules.proofs.Tests.{by-test}
 use Rattle.elimination_rules.proofs.RowOrder.{divisor-in-order}
 use Rattle.elimination_rules.proofs.LookupPick.{pick-looked-up, pick-proper}
 use Rattle.elimination_rules.proofs.Rank.{pick-by-rank}
@@ -59,22 +59,20 @@ module _ (s t : Best) where
   pub better-differ : (s .score ≡ t .score → ⊥) → ltb (t .score) (s .score) ≡ betterRanked s t
   better-differ h = rw (ne-eqb (s .score) (t .score) h) (sym (or-false (ltb (t .score) (s .score))))
 
-  pub better-yes : betterRanked t s ≡ true → t ≡ betterOf s t
-  better-yes h = sym (ap (λ (b : Bool). elim b [ true ↦ t | false ↦ s ]) h)
+  pub better-chosen : (b : Bool) → betterRanked t s ≡ b → elim b [ true ↦ t | false ↦ s ] ≡ betterOf s t
+  better-chosen b h = sym (ap (λ (b : Bool). elim b [ true ↦ t | false ↦ s ]) h)
 
-  pub better-no : betterRanked t s ≡ false → s ≡ betterOf s t
-  better-no h = sym (ap (λ (b : Bool). elim b [ true ↦ t | false ↦ s ]) h)
-
-chosen : (s t : Best) (b : Bool) → scoredOf (elim b [ true ↦ t | false ↦ s ]) ≡ elim b [ true ↦ scoredOf t | false ↦ scoredOf s ]
-chosen s t true = refl
-chosen s t false = refl
+-- what f gives one of two
+of-either : {A B : Type 0} (f : A → B) (x y : A) (b : Bool) → f (elim b [ true ↦ x | false ↦ y ]) ≡ elim b [ true ↦ f x | false ↦ f y ]
+of-either f x y true = refl
+of-either f x y false = refl
 
 abbrev betterScored : (Divisor → Divisor → Bool) → Scored → Scored → Scored
 betterScored first s t = elim (better first t s) [ true ↦ t | false ↦ s ]
 
 module _ (depths : List ℕ) (s t : Best) (hs : Ranked depths s) (ht : Ranked depths t) where
   pub better-is : scoredOf (betterOf s t) ≡ betterScored (lowerRank depths) (scoredOf s) (scoredOf t)
-  better-is = chosen s t (betterRanked t s) ∙ ap (λ (b : Bool). elim b [ true ↦ scoredOf t | false ↦ scoredOf s ]) same
+  better-is = of-either scoredOf t s (betterRanked t s) ∙ ap (λ (b : Bool). elim b [ true ↦ scoredOf t | false ↦ scoredOf s ]) same
     where
       same : betterRanked t s ≡ better (lowerRank depths) (scoredOf t) (scoredOf s)
       same = ap₂ (λ (x y : ℕ). ltb (s .score) (t .score) || (eqb (t .score) (s .score) && ltb x y)) ht hs
@@ -90,9 +88,7 @@ module _ (positions : ℕ) (first : Divisor → Divisor → Bool) (signs : List 
   unfolding lookupBest
   best-cons s p ps =
       let t : Scored = lookupScored positions signs (divisorOf p) in
-      by-bool (better first t s)
-      (λ y. rw (y, lookupBest) (sym (ap (λ (b : Bool). best (elim b [ true ↦ t | false ↦ s ]) ps) y)))
-      (λ y. rw (y, lookupBest) (sym (ap (λ (b : Bool). best (elim b [ true ↦ t | false ↦ s ]) ps) y)))
+      sym (of-either (λ (x : Scored). best x ps) t s (better first t s))
 
   best-append : (s : Scored) (ps qs : List Pair) → best s (ps ++ qs) ≡ best (best s ps) qs
   best-append s [] qs = unfold lookupBest in refl

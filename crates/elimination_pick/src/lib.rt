@@ -62,7 +62,7 @@ fn better_of(s: Best, t: Best) -> Best
     s
 }
 
-// The divisor of two terms of a row with its score in the first m rows.
+// The divisor of two terms of a row with its score in the first m rows and its rank.
 fn scored(signs: &[u8; SIZE], depths: &[u16; MAX_SYMBOLS], m: usize, t: Term, u: Term) -> Best
     requires { ⌜ (m ≤ maxRows) × Precedes t u × (t .symbol < termSymbols) × (u .symbol < termSymbols) ⌝ }
     ensures { λ r. ⌜ scoredOf r ≡ lookupScored positions (rowsSignsFrom (now (signs .entry)) 0 m) (divisorOf (record { first = t; second = u })) ⌝ }

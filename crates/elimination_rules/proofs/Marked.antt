@@ -22,5 +22,6 @@ marked-elimination = record {
   divisors-three = refl;
   replacements-three = refl;
   ties-four = refl;
+  replacements-sums = refl;
   depth-decides = refl;
 }

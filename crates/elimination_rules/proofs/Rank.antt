@@ -40,17 +40,10 @@ by-order x y less equal more = by-bool (ltb x y)
     (λ f. more (ltb-true y x f))
     (λ f. equal (omega (arith, ltb-false x y e, ltb-false y x f))))
 
--- only how two numbers compare counts
-same-comparison : (x y u v : ℕ) (otherwise : Bool) → (x < y → u < v) → (x ≡ y → u ≡ v) → (y < x → v < u) → smaller u v otherwise ≡ smaller x y otherwise
-same-comparison x y u v otherwise less equal more = by-order x y
-    (λ l. smaller-less u v otherwise (less l) ∙ sym (smaller-less x y otherwise l))
-    (λ e. smaller-equal u v otherwise (equal e) ∙ sym (smaller-equal x y otherwise e))
-    (λ l. smaller-more u v otherwise (more l) ∙ sym (smaller-more x y otherwise l))
-
 -- x, and behind it y, which has room below size
 module _ (size x y x′ y′ : ℕ) (otherwise : Bool) (h : y < size) (h′ : y′ < size) where
-  before-all : (a b : ℕ) → a < b → a * size + size ≤ b * size
-  before-all a b l = let m : suc a * size ≤ b * size = mul-le-mul-right size l in omega (arith, m)
+  next-multiple : (a b : ℕ) → a < b → a * size + size ≤ b * size
+  next-multiple a b l = let m : suc a * size ≤ b * size = mul-le-mul-right size l in omega (arith, m)
 
   abbrev whole : ℕ
   whole = x * size + y
@@ -60,18 +53,18 @@ module _ (size x y x′ y′ : ℕ) (otherwise : Bool) (h : y < size) (h′ : y�
 
   in-front : smaller (x * size + y) (x′ * size + y′) otherwise ≡ smaller x x′ (smaller y y′ otherwise)
   in-front = by-order x x′
-      (λ l. smaller-less whole whole′ otherwise (omega (arith, before-all x x′ l)) ∙ sym (smaller-less x x′ (smaller y y′ otherwise) l))
+      (λ l. smaller-less whole whole′ otherwise (omega (arith, next-multiple x x′ l)) ∙ sym (smaller-less x x′ (smaller y y′ otherwise) l))
       (λ e. only-behind (ap (λ (z : ℕ). z * size) e) ∙ sym (smaller-equal x x′ (smaller y y′ otherwise) e))
-      (λ l. smaller-more whole whole′ otherwise (omega (arith, before-all x′ x l)) ∙ sym (smaller-more x x′ (smaller y y′ otherwise) l))
+      (λ l. smaller-more whole whole′ otherwise (omega (arith, next-multiple x′ x l)) ∙ sym (smaller-more x x′ (smaller y y′ otherwise) l))
     where
       only-behind : x * size ≡ x′ * size → smaller whole whole′ otherwise ≡ smaller y y′ otherwise
-      only-behind e = same-comparison y y′ whole whole′ otherwise (λ l. omega (arith, e)) (λ f. omega (arith, e)) (λ l. omega (arith, e))
+      only-behind e = by-order y y′
+          (λ l. smaller-less whole whole′ otherwise (omega (arith, e)) ∙ sym (smaller-less y y′ otherwise l))
+          (λ f. smaller-equal whole whole′ otherwise (omega (arith, e)) ∙ sym (smaller-equal y y′ otherwise f))
+          (λ l. smaller-more whole whole′ otherwise (omega (arith, e)) ∙ sym (smaller-more y y′ otherwise l))
 
-alone : (x y : ℕ) → ltb x y ≡ smaller x y false
-alone x y = sym (ap (λ (b : Bool). ltb x y || b) (and-false (eqb x y)) ∙ or-false (ltb x y))
-
-one-more : (x y : ℕ) (otherwise : Bool) → smaller x y otherwise ≡ smaller (suc x) (suc y) otherwise
-one-more x y otherwise = sym (same-comparison x y (suc x) (suc y) otherwise (λ l. omega arith) (λ e. omega arith) (λ l. omega arith))
+test-alone : (x y : ℕ) → ltb x y ≡ smaller x y false
+test-alone x y = sym (ap (λ (b : Bool). ltb x y || b) (and-false (eqb x y)) ∙ or-false (ltb x y))
 
 -- ---- the key, and the rank
 
@@ -99,11 +92,9 @@ module _ (positions symbol : ℕ) (enough-positions : positions ≤ exponentRoom
 
     pub rank-order : (depths : List ℕ) → lowerRank depths d e ≡ shallower depths d e
     rank-order depths =
-        let deeper : Divisor → ℕ = λ x. max (getD depths (x .a) 0) (getD depths (x .b) 0) in
-        alone (divisorRank depths d) (divisorRank depths e)
-        ∙ in-front keyRoom (deeper d) (divisorKey d) (deeper e) (divisorKey e) false (key-room d u) (key-room e v)
-        ∙ ap (smaller (deeper d) (deeper e)) key-order
-        ∙ one-more (deeper d) (deeper e) (before d e)
+        test-alone (divisorRank depths d) (divisorRank depths e)
+        ∙ in-front keyRoom (divisorDepth depths d) (divisorKey d) (divisorDepth depths e) (divisorKey e) false (key-room d u) (key-room e v)
+        ∙ ap (smaller (divisorDepth depths d) (divisorDepth depths e)) key-order
       where
         key-room : (x : Divisor) → DivisorWithin positions symbol x → divisorKey x < keyRoom
         key-room x w = omega (arith, sign-room (x .minus), w .a, w .b, w .ea, w .eb)

@@ -1,5 +1,5 @@
 -- The order among equal scores. By a strict total order the pick is the first of those with the highest score, and nothing else is
--- the pick, whatever the order in which pairs are visited. Document 01's order is such an order, whatever divisors were made.
+-- the pick, whatever the order in which pairs are visited. The order of elimination is such an order, whatever divisors were made.
 -- Assumes nothing.
 use Prim.Native.Nat.{ℕ, _≤_, _<_}
 use mathlib.Core.Path.{_≡_, refl, sym, _∙_, ap}
@@ -212,7 +212,7 @@ before-order = record {
       (smaller-total (d .eb) (e .eb) _ _ (plus-first-total (d .minus) (e .minus))))) h);
 }
 
--- ---- document 01's order: the smallest depth, then that
+-- ---- the order of elimination: the smallest depth, then the smallest a, and so on
 
 module _ (depths : List ℕ) where
   abbrev pub Shallower : Divisor → Divisor → Type 0
@@ -231,19 +231,32 @@ module _ (depths : List ℕ) where
     total = λ d e h. ⊎-elim (λ w. inl (w .1)) inr (smaller-total (divisorDepth depths d) (divisorDepth depths e) _ _ (before-order .total d e) h);
   }
 
+  -- what is picked: nothing where there is no pair, else the divisor of a pair with its score, such that every other divisor that occurs has a
+  -- lower score, or the same and a larger depth, or the same of both and goes behind it by a, b, ea, eb and sign
+  pub record Picked (rows : List Row) (best : Scored) : Type 0 where
+    pub of-a-pair : ((allPairs rows ≡ []) × (best ≡ noPairs)) ⊎ ((p : Pair) × List·Memᴰ p (allPairs rows) × (best ≡ scored rows p))
+    pub goes-first : (d : Divisor) → 1 ≤ score d rows
+        → (d ≡ best .divisor) ⊎ ((score d rows < best .score) ⊎ ((score d rows ≡ best .score) × Shallower (best .divisor) d))
+
 module _ (inputs : ℕ) (made : List Divisor) where
   pub shallowest-first-order : StrictTotal (shallowestFirst inputs made)
   unfolding shallowestFirst
   shallowest-first-order = shallower-order (symbolDepths inputs made)
 
-  -- the pick is the one divisor of the highest score, then the smallest depth, then the smallest a, b, ea, eb, then plus
-  pub shallowest-pick : (rows : List Row) (d : Divisor) → 1 ≤ score d rows
-      → (let best : Scored = pick (shallowestFirst inputs made) rows in
-      (d ≡ best .divisor) ⊎ ((score d rows < best .score) ⊎ ((score d rows ≡ best .score) × Shallower (symbolDepths inputs made) (best .divisor) d)))
+  pub shallowest-pick : (rows : List Row) → Picked (symbolDepths inputs made) rows (pick (shallowestFirst inputs made) rows)
   unfolding shallowestFirst
-  shallowest-pick rows d h =
+  shallowest-pick rows =
       let depths : List ℕ = symbolDepths inputs made in
-      ⊎-elim
-      inl
-      (λ r. inr (⊎-elim inl (λ l. inr (l .0, shallower-is depths (pick (shallower depths) rows .divisor) d .0 (l .1))) r))
-      (pick-only (shallower depths) (shallower-order depths) rows d h)
+      record {
+        of-a-pair = pick-is (shallower depths) rows;
+        goes-first = λ d h. ⊎-elim
+            inl
+            (λ r. inr (⊎-elim inl (λ l. inr (l .0, shallower-is depths (pick (shallower depths) rows .divisor) d .0 (l .1))) r))
+            (pick-only (shallower depths) (shallower-order depths) rows d h);
+      }
+
+  -- whatever the order in which pairs are visited
+  pub shallowest-visited : (rows : List Row) (ps : List Pair)
+      → ((p : Pair) → List·Memᴰ p ps → List·Memᴰ p (allPairs rows)) → ((p : Pair) → List·Memᴰ p (allPairs rows) → List·Memᴰ p ps)
+      → bestOf (shallowestFirst inputs made) rows ps ≡ pick (shallowestFirst inputs made) rows
+  shallowest-visited = visited-any-way (shallowestFirst inputs made) shallowest-first-order

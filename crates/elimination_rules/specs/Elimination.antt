@@ -41,7 +41,7 @@ before d e = smaller (d .a) (e .a) (smaller (d .b) (e .b) (smaller (d .ea) (e .e
 abbrev pub shallower : List ℕ → Divisor → Divisor → Bool
 shallower depths d e = smaller (divisorDepth depths d) (divisorDepth depths e) (before d e)
 
--- document 01's order, for a number of inputs
+-- the order of elimination, for a number of inputs
 unfoldable pub shallowestFirst : ℕ → TieOrder
 unfolding symbolDepths
 shallowestFirst inputs made = shallower (symbolDepths inputs made)
@@ -152,7 +152,7 @@ unfoldable pub elimination : TieOrder → ℕ → List Row → Eliminated
 unfolding eliminate plainCount
 elimination order inputs rows = eliminate order (enoughSteps rows) inputs [] rows
 
--- of a matrix with a number of columns, over a number of digit positions, by document 01's order
+-- of a matrix with a number of columns, over a number of digit positions, by that order
 unfoldable pub matrixElimination : ℕ → ℕ → List (List ℤ) → Eliminated
 unfolding elimination matrixRows shallowestFirst
 matrixElimination positions inputs m = elimination (shallowestFirst inputs) inputs (matrixRows positions m)

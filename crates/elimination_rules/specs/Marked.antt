@@ -76,5 +76,6 @@ pub record MarkedElimination : Type 0 where
   pub replacements-three : eliminatedThree .replacements ≡ 2
   -- all four have score 2, so it is the order among equal scores that picks them: x0 + x3, x0 − x3, x1 + x2, x1 − x2
   pub ties-four : eliminatedFour .divisors ≡ unshifted 0 3 false ∷ unshifted 0 3 true ∷ unshifted 1 2 false ∷ unshifted 1 2 true ∷ []
-  -- all three have score 2; behind x0 + x1, which gets symbol 5, x3 + x4 goes before x2 + 5, whose operation would be deeper
+  -- each of the three has score 2; x0 + x1 gets symbol 5, and (3<<0) + (4<<0) goes before (2<<0) + (5<<0), which would be deeper
+  pub replacements-sums : eliminatedSums .replacements ≡ 6
   pub depth-decides : eliminatedSums .divisors ≡ unshifted 0 1 false ∷ unshifted 3 4 false ∷ unshifted 2 5 false ∷ []

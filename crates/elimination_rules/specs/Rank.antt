@@ -1,14 +1,14 @@
 -- Document 01, "Elimination": a divisor's place in the order among equal scores as one number, so that one comparison decides. These are
 -- second definitions: on divisors within the limits they agree with `shallower`, by the law of proofs/Rank.
 -- Assumes nothing.
-use Prim.Native.Nat.{ℕ, _+_, _*_, max}
+use Prim.Native.Nat.{ℕ, _+_, _*_}
 use mathlib.Core.Bool.{Bool, true, false}
 use mathlib.Core.List.{List}
 use lib.Dec.{ltb}
-use lib.ListN.{getD}
 use Rattle.elimination_rules.specs.declared.Divisor.{Divisor}
+use Rattle.elimination_rules.specs.Elimination.{divisorDepth}
 
--- so many values have room for a symbol and for an exponent: powers of two, since then a number is taken apart by shifts
+-- a symbol and an exponent have room for so many values: powers of two, so that a number is taken apart by shifts
 abbrev pub symbolRoom : ℕ
 symbolRoom = 512
 
@@ -27,9 +27,9 @@ divisorKey d = (((d .a * symbolRoom + d .b) * exponentRoom + d .ea) * exponentRo
 abbrev pub keyRoom : ℕ
 keyRoom = symbolRoom * symbolRoom * exponentRoom * exponentRoom * 2
 
--- before these, the deeper of a and b by the depths of the symbols: a depth is 1 more, for every divisor
+-- the smallest depth, then the smallest key
 abbrev pub divisorRank : List ℕ → Divisor → ℕ
-divisorRank depths d = max (getD depths (d .a) 0) (getD depths (d .b) 0) * keyRoom + divisorKey d
+divisorRank depths d = divisorDepth depths d * keyRoom + divisorKey d
 
 abbrev pub lowerRank : List ℕ → Divisor → Divisor → Bool
 lowerRank depths d e = ltb (divisorRank depths d) (divisorRank depths e)

@@ -19,7 +19,7 @@ use Rattle.board_rules.specs.Table.{filled, Small, tableCoefficient, row, outpu
 use Rattle.board_rules.specs.Netlist.{OperationLimits, OutputOperand}
 use Rattle.board_rules.proofs.FormLaws.{entry-form-keeps}
 use Rattle.board_rules.proofs.DepthLaws.{largest-snoc}
-use Rattle.board_rules.proofs.TableLaws.{started-holds, row-is, output-row-is, appended-holds, depth-small}
+use Rattle.board_rules.proofs.TableLaws.{started-holds, row-is, output-row-is, appended-holds, operands-fit}
 use Rattle.board_rules.proofs.TableLaws as tables
 use Rattle.board_rules.proofs.BoundLaws.{sample-width, widest-shifted, forms-small, appended-range-small, output-row-range-small}
 use Rattle.netlist_rules.specs.Read.{operationWidth, outputWidth}
@@ -113,26 +113,24 @@ module _ (b : List ℕ) (n k : ℕ) (table : List ℕ) (D : DepthsHeld b n k tab
   abbrev operations : List Operation
   operations = firstOperations b k
 
-  made : length (firstOperations b k) ≡ k
-  made = length-first (operationAt b) k
+  length-operations : length (firstOperations b k) ≡ k
+  length-operations = length-first (operationAt b) k
 
   pub depth-asked : (o : Operation) → OperationLimits readLimits (n + k) o → k < maxOperations → (getD table (o .a) 0 < 65535) × (getD table (o .b) 0 < 65535)
-  depth-asked o L m = (
-    omega (arith, made, depth-small n operations table D (o .a) (omega (arith, made, L .first-earlier))),
-    omega (arith, made, depth-small n operations table D (o .b) (omega (arith, made, L .second-earlier))),
-  )
+  depth-asked o L m =
+      operands-fit n operations table D o (omega (arith, length-operations, L .first-earlier)) (omega (arith, length-operations, L .second-earlier)) (omega (arith, length-operations))
 
   pub depths-appended : OperationLimits readLimits (n + k) (operationAt b k) → n ≤ maxColumns → k < maxOperations
       → DepthsHeld b n (suc k) (set table (n + k) (operationDepth table (operationAt b k)))
   unfolding firstRecords
   depths-appended L l m =
       let o = operationAt b k in
-      rw made at (tables.depths-appended n operations table D o (omega (arith, made, L .first-earlier)) (omega (arith, made, L .second-earlier)) (omega (arith, made)))
+      rw length-operations at (tables.depths-appended n operations table D o (omega (arith, length-operations, L .first-earlier)) (omega (arith, length-operations, L .second-earlier)) (omega (arith, length-operations)))
 
   -- the largest of them is the netlist's
   pub depth-held : largest (take (n + k) table) ≡ depth n (firstOperations b k)
   unfolding depth
-  depth-held = ap (λ (j : ℕ). largest (take (n + j) table)) (sym made) ∙ ap largest (D .held)
+  depth-held = ap (λ (j : ℕ). largest (take (n + j) table)) (sym length-operations) ∙ ap largest (D .held)
 
 pub largest-none : (l : List ℕ) → 0 ≡ largest (take 0 l)
 unfolding largest

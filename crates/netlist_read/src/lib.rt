@@ -164,7 +164,7 @@ fn largest_depth(depths: &[u16; MAX_SYMBOLS], count: usize) -> u16
 {
     let mut depth: u16 = 0;
     for i in 0..count {
-        depth = board_tables::deeper(depth, depths[i]);
+        depth = integers::larger(depth, depths[i]);
     }
     depth
 }

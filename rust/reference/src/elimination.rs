@@ -124,7 +124,7 @@ pub(crate) enum Order {
 }
 
 /// A divisor, the depth of its operation and a score that it had: highest score first, then smallest depth, then smallest
-/// divisor.
+/// divisor. Small numbers keep a candidate small, since the heap moves many.
 #[derive(Clone, Copy, Debug, PartialEq, Eq, PartialOrd, Ord)]
 struct Candidate {
     score: u16,

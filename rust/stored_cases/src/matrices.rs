@@ -73,11 +73,16 @@ pub fn matrices() -> Vec<Matrix> {
     all
 }
 
-/// Banks of 4 to 6 rows and columns, for compile alone: in most of them depth decides somewhere among divisors of equal score.
+/// For compile alone, the marked bank of sums of five and banks of 4 to 6 rows and columns: in most of them depth decides
+/// somewhere among divisors of equal score.
 pub fn banks_with_equal_scores() -> Vec<Matrix> {
     let mut random = MersenneTwister::new(&[20_261_116]);
     let sizes = (4..=6).flat_map(|m| (4..=6).map(move |n| (m, n)));
-    let mut all = Vec::new();
+    let mut all = vec![Matrix::of_rows(&[
+        &[1, 1, 1, 1, 1],
+        &[1, 1, 1, 0, 0],
+        &[0, 0, 0, 1, 1],
+    ])];
     for (m, n) in sizes {
         for _ in 0..6 {
             all.push(filled(m, n, || random.between(-32_768, 32_767) as i16));

@@ -16,7 +16,7 @@ use Rattle.board_rules.proofs.TableLaws.{depths-started}
 use Rattle.compile_lists.specs.Lists.{operationsList, noOperation}
 use Rattle.compile_rules.specs.Compiled.{compiledLimits}
 use Rattle.compile_write.specs.Tables.{Writable}
-use Rattle.compile_write.proofs.WriteLaws.{earlier-depth, depths-next, depth-next}
+use Rattle.compile_write.proofs.WriteLaws.{earlier-depths, depths-next, depth-next}
 use Rattle.compile_write.proofs.depth_of.Statement.{statement}
 use Rattle.compile_write.proofs.depth_of.Tie as tie
 
@@ -56,9 +56,6 @@ module _ (c : tie.In-loop Inv-loop μ-loop) where
   symbol-below : s .args .n + c .before .loop .k < maxSymbols
   symbol-below = omega (arith, inside, writable .few, writable .inputs)
 
-  earlier : (symbol : ℕ) → symbol < s .args .n + c .before .loop .k → getD (c .before .loop .depths) symbol 0 < 65535
-  earlier = earlier-depth (s .args .n) os writable (c .before .loop .depths) (c .before .loop .k) inside (c .before .loop .inv .1)
-
 operation-requires : tie.Need-operation-requires Inv-loop μ-loop
 operation-requires c κs = inside (c .before)
 
@@ -71,7 +68,7 @@ operation-depth-requires c κs =
     let e = sym (c .operation .ensures) in
     let first : c .operation .result .a < n + k = subst (λ (o : Operation). o .a < n + k) e (w .operation k (inside g) .first-earlier) in
     let second : c .operation .result .b < n + k = subst (λ (o : Operation). o .b < n + k) e (w .operation k (inside g) .second-earlier) in
-    ((omega (arith, symbol-below g), omega (arith, symbol-below g)), (earlier g (c .operation .result .a) first, earlier g (c .operation .result .b) second))
+    ((omega (arith, symbol-below g), omega (arith, symbol-below g)), rw (c .operation .ensures) (earlier-depths n (os g) w (g .before .loop .depths) k (inside g) (g .before .loop .inv .1)))
 
 add-depths : tie.Need-add-depths Inv-loop μ-loop
 add-depths c = omega (arith, symbol-below (c .before .before .before))
@@ -82,8 +79,8 @@ mul-depths c = omega (arith, symbol-below (c .before .before .before))
 array-write-depths : tie.Need-array-write-depths Inv-loop μ-loop
 array-write-depths c = omega (arith, symbol-below (c .before .before .before))
 
-deeper-requires : tie.Need-deeper-requires Inv-loop μ-loop
-deeper-requires c κs = search needs
+larger-requires : tie.Need-larger-requires Inv-loop μ-loop
+larger-requires c κs = search needs
 
 add-k : tie.Need-add-k Inv-loop μ-loop
 add-k c = let g = c .before .before .before .before in omega (arith, symbol-below g)
@@ -105,7 +102,7 @@ loop-again c =
     rw (add-one k) (
       omega (arith, g .loop-test .taken),
       rw e (depths-next n (os g) w table k (inside g) (L .loop .inv .1)),
-      c .deeper .ensures ∙ ap₂ max (L .loop .inv .2) e ∙ depth-next n (os g) w table k (inside g) (L .loop .inv .1),
+      c .larger .ensures ∙ ap₂ max (L .loop .inv .2) e ∙ depth-next n (os g) w table k (inside g) (L .loop .inv .1),
     )
 
 returns : tie.Need-returns Inv-loop μ-loop
@@ -128,7 +125,7 @@ depth-of-spec =
     add-depths
     mul-depths
     array-write-depths
-    deeper-requires
+    larger-requires
     add-k
     loop-less
     loop-again

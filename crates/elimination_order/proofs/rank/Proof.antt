@@ -11,23 +11,26 @@ cast-a c = search needs
 cast-b : tie.Need-cast-b
 cast-b c = search needs
 
-mul-deeper : tie.Need-mul-deeper
-mul-deeper c = search needs
+mul-larger : tie.Need-mul-larger
+mul-larger c = search needs
 
-element-copy-out-deeper : tie.Need-element-copy-out-deeper
-element-copy-out-deeper c = search needs
+element-copy-out-larger : tie.Need-element-copy-out-larger
+element-copy-out-larger c = search needs
 
-mul-deeper-2 : tie.Need-mul-deeper-2
-mul-deeper-2 c = search needs
+mul-larger-2 : tie.Need-mul-larger-2
+mul-larger-2 c = search needs
 
-element-copy-out-deeper-2 : tie.Need-element-copy-out-deeper-2
-element-copy-out-deeper-2 c = search needs
+element-copy-out-larger-2 : tie.Need-element-copy-out-larger-2
+element-copy-out-larger-2 c = search needs
 
-deeper-requires : tie.Need-deeper-requires
-deeper-requires c κs = search needs
+larger-requires : tie.Need-larger-requires
+larger-requires c κs = search needs
 
-cast-result : tie.Need-cast-result
-cast-result c = search needs
+cast-depth : tie.Need-cast-depth
+cast-depth c = search needs
+
+add-depth : tie.Need-add-depth
+add-depth c = search needs
 
 mul-result : tie.Need-mul-result
 mul-result c = search needs
@@ -47,12 +50,13 @@ rank-spec =
     (tie.spec
     cast-a
     cast-b
-    mul-deeper
-    element-copy-out-deeper
-    mul-deeper-2
-    element-copy-out-deeper-2
-    deeper-requires
-    cast-result
+    mul-larger
+    element-copy-out-larger
+    mul-larger-2
+    element-copy-out-larger-2
+    larger-requires
+    cast-depth
+    add-depth
     mul-result
     key-requires
     add-result

@@ -18,14 +18,14 @@ abbrev μ-loop : tie.MeasureT-loop
 loop-holds : tie.Need-loop-holds Inv-loop μ-loop
 loop-holds c = (omega arith, largest-none (c .args .depths .now))
 
-mul-deeper : tie.Need-mul-deeper Inv-loop μ-loop
-mul-deeper c = omega arith
+mul-larger : tie.Need-mul-larger Inv-loop μ-loop
+mul-larger c = omega arith
 
-element-copy-out-deeper : tie.Need-element-copy-out-deeper Inv-loop μ-loop
-element-copy-out-deeper c = omega arith
+element-copy-out-larger : tie.Need-element-copy-out-larger Inv-loop μ-loop
+element-copy-out-larger c = omega arith
 
-deeper-requires : tie.Need-deeper-requires Inv-loop μ-loop
-deeper-requires c κs = tt
+larger-requires : tie.Need-larger-requires Inv-loop μ-loop
+larger-requires c κs = tt
 
 add-i : tie.Need-add-i Inv-loop μ-loop
 add-i c = omega arith
@@ -35,7 +35,7 @@ loop-less c = omega arith
 
 loop-again : tie.Need-loop-again Inv-loop μ-loop
 loop-again c = let L = c .before .before .before in let t = L .before .args .depths .now in
-    rw add-one (omega arith, c .deeper .ensures ∙ ap (λ (x : ℕ). max x (getD t (L .loop .i) 0)) (L .loop .inv .1) ∙ largest-next t (L .loop .i) (omega arith))
+    rw add-one (omega arith, c .larger .ensures ∙ ap (λ (x : ℕ). max x (getD t (L .loop .i) 0)) (L .loop .inv .1) ∙ largest-next t (L .loop .i) (omega arith))
 
 returns : tie.Need-returns Inv-loop μ-loop
 returns c = let L = c .before in let e : L .loop .i ≡ L .before .args .count = omega arith in L .loop .inv .1 ∙ ap (λ (j : ℕ). largest (take j (L .before .args .depths .now))) e
@@ -47,9 +47,9 @@ largest-depth-spec =
     Inv-loop
     μ-loop
     loop-holds
-    mul-deeper
-    element-copy-out-deeper
-    deeper-requires
+    mul-larger
+    element-copy-out-larger
+    larger-requires
     add-i
     loop-less
     loop-again
