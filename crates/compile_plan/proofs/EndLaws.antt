@@ -24,13 +24,14 @@ use Rattle.board_rules.proofs.TableLaws.{depths-started, depth-at, operands-fit
 use Rattle.compile_rules.specs.Chains.{divisorOperation}
 use Rattle.compile_rules.proofs.Depths.{symbol-depths}
 
--- what is left to do, by any order among equal scores, and what it comes to with what was done
+-- what was done and what was left to do, together
+abbrev withRest : List Divisor → ℕ → Eliminated → Eliminated
+withRest made k e = record { divisors = made ++ e .divisors; replacements = k + e .replacements; remainingRows = e .remainingRows }
+
 module _ (order : TieOrder) where
+  -- what is left to do
   abbrev restOf : ℕ → List Divisor → List Row → Eliminated
   restOf symbol made rows = eliminate order (plainCount rows) symbol made rows
-
-  abbrev withRest : List Divisor → ℕ → Eliminated → Eliminated
-  withRest made k e = record { divisors = made ++ e .divisors; replacements = k + e .replacements; remainingRows = e .remainingRows }
 
   rest-start : (n : ℕ) (rows : List Row) → withRest [] 0 (restOf n [] rows) ≡ elimination order n rows
   unfolding elimination
@@ -69,7 +70,7 @@ pub record BeforeStep (n : ℕ) (first : List Row) (symbol : ℕ) (operations : 
   pub next-symbol : symbol ≡ n + length made
   pub few : 2 * length made + plainCount rows ≤ maxOperations
   pub replaced : k + plainCount rows ≤ maxOperations
-  pub rest : withRest (shallowestFirst n) made k (restOf (shallowestFirst n) symbol made rows) ≡ elimination (shallowestFirst n) n first
+  pub rest : withRest made k (restOf (shallowestFirst n) symbol made rows) ≡ elimination (shallowestFirst n) n first
 
 pub before-first : (n : ℕ) (rows : List Row) (table : List ℕ) → Ready n rows → n ≤ maxColumns → plainCount rows ≤ maxOperations → table ≡ filled maxSymbols 0
     → BeforeStep n rows n [] table 0 rows
