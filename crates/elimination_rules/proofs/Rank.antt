@@ -3,13 +3,14 @@
 -- Assumes nothing.
 use Prim.Native.Nat.{ℕ, suc, _+_, _*_, _≤_, _<_, max}
 use mathlib.Core.Path.{_≡_, refl, sym, _∙_, ap, ap₂}
+use mathlib.Core.Logic.{inl}
 use mathlib.Core.Bool.{Bool, true, false, not, _&&_, _||_, and-false, or-false}
 use mathlib.Core.List.{List, List·Memᴰ}
 use native.Mathlib.Nat.{mul-le-mul-right}
 use native.Mathlib.Omega.{arith}
 use lib.Dec.{ltb, eqb}
 use lib.ListN.{getD}
-use borrow.Author.Tests.{eq-eqb, ne-eqb, lt-ltb, le-ltb, ltb-true, ltb-false}
+use borrow.Author.Tests.{eq-eqb, ne-eqb, le-ltb, ltb-true, ltb-false}
 use Rattle.elimination_rules.specs.declared.Divisor.{Divisor}
 use Rattle.elimination_rules.specs.Rows.{Row, WellFormed, EachRow}
 use Rattle.elimination_rules.specs.Divisors.{Pair, divisorOf}
@@ -18,14 +19,12 @@ use Rattle.elimination_rules.specs.Rank.{symbolRoom, exponentRoom, signK
 use Rattle.elimination_rules.proofs.Tests.{by-bool}
 use Rattle.elimination_rules.proofs.Order.{DivisorWithin, divisor-within}
 use Rattle.elimination_rules.proofs.Pick.{pick-agrees}
+use Rattle.elimination_rules.proofs.Ties.{yes-smaller}
 use Rattle.elimination_rules.proofs.LookupPick.{pair-scores}
 
 -- ---- a number in front of another
 
 module _ (x y : ℕ) (otherwise : Bool) where
-  smaller-less : x < y → smaller x y otherwise ≡ true
-  smaller-less h = rw (lt-ltb x y h)
-
   smaller-more : y < x → smaller x y otherwise ≡ false
   smaller-more h = rw (le-ltb x y (omega arith), ne-eqb x y (omega arith))
 
@@ -53,13 +52,13 @@ module _ (size x y x′ y′ : ℕ) (otherwise : Bool) (h : y < size) (h′ : y�
 
   in-front : smaller (x * size + y) (x′ * size + y′) otherwise ≡ smaller x x′ (smaller y y′ otherwise)
   in-front = by-order x x′
-      (λ l. smaller-less whole whole′ otherwise (omega (arith, next-multiple x x′ l)) ∙ sym (smaller-less x x′ (smaller y y′ otherwise) l))
+      (λ l. yes-smaller whole whole′ otherwise (inl (omega (arith, next-multiple x x′ l))) ∙ sym (yes-smaller x x′ (smaller y y′ otherwise) (inl l)))
       (λ e. only-behind (ap (λ (z : ℕ). z * size) e) ∙ sym (smaller-equal x x′ (smaller y y′ otherwise) e))
       (λ l. smaller-more whole whole′ otherwise (omega (arith, next-multiple x′ x l)) ∙ sym (smaller-more x x′ (smaller y y′ otherwise) l))
     where
       only-behind : x * size ≡ x′ * size → smaller whole whole′ otherwise ≡ smaller y y′ otherwise
       only-behind e = by-order y y′
-          (λ l. smaller-less whole whole′ otherwise (omega (arith, e)) ∙ sym (smaller-less y y′ otherwise l))
+          (λ l. yes-smaller whole whole′ otherwise (inl (omega (arith, e))) ∙ sym (yes-smaller y y′ otherwise (inl l)))
           (λ f. smaller-equal whole whole′ otherwise (omega (arith, e)) ∙ sym (smaller-equal y y′ otherwise f))
           (λ l. smaller-more whole whole′ otherwise (omega (arith, e)) ∙ sym (smaller-more y y′ otherwise l))
 

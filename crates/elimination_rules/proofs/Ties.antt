@@ -142,7 +142,7 @@ smaller-yes x y b h = ⊎-elim
     (λ r. inr (eqb-true x y (and-left (eqb x y) b r), and-right (eqb x y) b r))
     (or-cases (ltb x y) (eqb x y && b) h)
 
-yes-smaller : (x y : ℕ) (b : Bool) → (x < y) ⊎ ((x ≡ y) × (b ≡ true)) → smaller x y b ≡ true
+pub yes-smaller : (x y : ℕ) (b : Bool) → (x < y) ⊎ ((x ≡ y) × (b ≡ true)) → smaller x y b ≡ true
 yes-smaller x y b (inl h) = or-left (ltb x y) (eqb x y && b) (lt-ltb x y h)
 yes-smaller x y b (inr h) = or-right (ltb x y) (eqb x y && b) (and-both (eqb x y) b (eq-eqb x y (h .0)) (h .1))
 
