@@ -78,17 +78,17 @@ fn with_chain(operations: Operations, row: Row, n: usize) -> Operations
     }
     let first = row.term(0);
     let turned = first.negative();
-    let mut out = operations;
+    let mut list = operations.list();
+    let mut at = operations.count();
     let mut symbol = first.symbol();
     let mut shift = first.exponent();
-    let mut next = (n + operations.count()) as u16;
     for i in 1..count {
-        out = out.push(chain_operation(symbol, shift, turned, row.term(i)));
-        symbol = next;
+        list[at] = chain_operation(symbol, shift, turned, row.term(i));
+        symbol = (n + at) as u16;
         shift = 0;
-        next += 1;
+        at += 1;
     }
-    out
+    Operations::of(list, at)
 }
 
 // Per remaining row its chain.

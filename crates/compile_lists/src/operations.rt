@@ -3,11 +3,11 @@
 use layout_rules::Operation;
 use limits::MAX_OPERATIONS;
 ghost use mathlib.Core.Path.{_≡_};
-ghost use mathlib.Core.List.{[], _∷_, _++_};
-ghost use Prim.Native.Nat.{_<_};
-ghost use lib.ListN.{length, getD};
+ghost use mathlib.Core.List.{[]};
+ghost use Prim.Native.Nat.{_≤_};
+ghost use lib.ListN.{length, take};
 ghost use Rattle.limits.specs.Limits.{maxOperations};
-ghost use Rattle.compile_lists.specs.Lists.{operationsList, noOperation};
+ghost use Rattle.compile_lists.specs.Lists.{operationsList};
 
 // "operations (2 bytes, at most 504)".
 pub struct Operations {
@@ -33,17 +33,6 @@ impl Operations {
         }
     }
 
-    pub fn push(self, o: Operation) -> Operations
-        requires { ⌜ length (operationsList self) < maxOperations ⌝ }
-        ensures { λ r. ⌜ operationsList r ≡ operationsList self ++ (o ∷ []) ⌝ }
-    {
-        let mut operations = self;
-        let count = operations.count;
-        operations.list[count] = o;
-        operations.count = count + 1;
-        operations
-    }
-
     // No method makes a count above the most.
     pub fn count(self) -> usize
         ensures { λ r. ⌜ r ≡ length (operationsList self) ⌝ }
@@ -55,10 +44,18 @@ impl Operations {
         }
     }
 
-    pub fn operation(self, i: usize) -> Operation
-        requires { ⌜ i < length (operationsList self) ⌝ }
-        ensures { λ r. ⌜ r ≡ getD (operationsList self) i noOperation ⌝ }
+    // The operations, and past the last of them what is no part of the list.
+    pub fn list(self) -> [Operation; MAX_OPERATIONS]
+        ensures { λ r. ⌜ take (length (operationsList self)) r ≡ operationsList self ⌝ }
     {
-        self.list[i]
+        self.list
+    }
+
+    // The list of the first operations.
+    pub fn of(list: [Operation; MAX_OPERATIONS], count: usize) -> Operations
+        requires { ⌜ count ≤ maxOperations ⌝ }
+        ensures { λ r. ⌜ operationsList r ≡ take count list ⌝ }
+    {
+        Operations { list, count }
     }
 }

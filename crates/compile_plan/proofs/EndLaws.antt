@@ -1,6 +1,6 @@
--- Document 01, "Elimination": elimination to its end, one step at a time.
+-- Document 01, "Elimination": at most so many steps of elimination, one at a time.
 -- Assumes nothing.
-use Prim.Native.Nat.{ℕ, suc, _+_, _*_, _≤_, _<_}
+use Prim.Native.Nat.{ℕ, zero, suc, _+_, _*_, _≤_, _<_}
 use mathlib.Core.Path.{_≡_, refl, sym, ap, ap₂, _∙_}
 use mathlib.Core.List.{List, [], _∷_, _++_, map, append-assoc, append-nil, map-append}
 use native.Mathlib.Omega.{arith}
@@ -9,14 +9,16 @@ use Rattle.limits.specs.Limits.{maxColumns, positions, maxOperations, termSymbo
 use Rattle.elimination_rules.specs.declared.Divisor.{Divisor}
 use Rattle.elimination_rules.specs.Rows.{Row, plainCount}
 use Rattle.elimination_rules.specs.Divisors.{score}
-use Rattle.elimination_rules.specs.Elimination.{TieOrder, symbolDepths, shallower, shallowestFirst, Scored, pick, rowsAfter, Eliminated, eliminate, elimination}
+use Rattle.elimination_rules.specs.Lookup.{Proper}
+use Rattle.elimination_rules.specs.Elimination.{TieOrder, symbolDepths, shallower, shallowestFirst, Scored, pick, rowsAfter, Eliminated, ended, eliminate}
 use Rattle.elimination_rules.proofs.Order.{DivisorWithin, divisor-within}
 use Rattle.elimination_rules.proofs.Counts.{plain-after}
 use Rattle.elimination_rules.proofs.Pick.{pick-score}
 use Rattle.elimination_rules.proofs.Rank.{pick-by-depths}
-use Rattle.elimination_rules.proofs.End.{from-ends, from-goes-on}
+use Rattle.elimination_rules.proofs.PairScores.{scored-proper}
+use Rattle.elimination_rules.proofs.End.{eliminate-ends, eliminate-goes-on}
 use Rattle.elimination_rows.specs.State.{Ready}
-use Rattle.elimination_rows.proofs.Ready.{ready-below, ready-after}
+use Rattle.elimination_rows.proofs.Ready.{ready-after}
 use Rattle.layout_rules.specs.declared.Operation.{Operation}
 use Rattle.board_rules.specs.Machine.{operationDepth, depths}
 use Rattle.board_rules.specs.Table.{filled, HoldsDepths}
@@ -29,40 +31,43 @@ abbrev withRest : List Divisor → ℕ → Eliminated → Eliminated
 withRest made k e = record { divisors = made ++ e .divisors; replacements = k + e .replacements; remainingRows = e .remainingRows }
 
 module _ (order : TieOrder) where
-  -- what is left to do
-  abbrev restOf : ℕ → List Divisor → List Row → Eliminated
-  restOf symbol made rows = eliminate order (plainCount rows) symbol made rows
-
-  rest-start : (n : ℕ) (rows : List Row) → withRest [] 0 (restOf n [] rows) ≡ elimination order n rows
-  unfolding elimination
-  rest-start n rows =
-      let e : Eliminated = restOf n [] rows in
+  rest-start : (most n : ℕ) (rows : List Row) → withRest [] 0 (eliminate order most n [] rows) ≡ eliminate order most n [] rows
+  rest-start most n rows =
+      let e : Eliminated = eliminate order most n [] rows in
       ap (λ (k : ℕ). record { divisors = e .divisors; replacements = k; remainingRows = e .remainingRows }) (omega arith)
 
   module _ (symbol : ℕ) (made : List Divisor) (k : ℕ) (rows : List Row) where
     abbrev best : Scored
     best = pick (order made) rows
 
-    rest-ends : best .score < 2 → record { divisors = made; replacements = k; remainingRows = rows } ≡ withRest made k (restOf symbol made rows)
-    rest-ends h =
+    rest-none : record { divisors = made; replacements = k; remainingRows = rows } ≡ withRest made k (ended rows)
+    rest-none =
         let none : k ≡ k + 0 = omega arith in
         ap₂ (λ (ds : List Divisor) (j : ℕ). record { divisors = ds; replacements = j; remainingRows = rows }) (sym (append-nil made)) none
-        ∙ ap (withRest made k) (sym (from-ends order symbol made rows h))
 
-    rest-goes-on : 2 ≤ best .score
-        → withRest (made ++ (best .divisor ∷ [])) (k + best .score) (restOf (suc symbol) (made ++ (best .divisor ∷ [])) (rowsAfter symbol (best .divisor) rows))
-        ≡ withRest made k (restOf symbol made rows)
-    rest-goes-on h =
-        let e : Eliminated = restOf (suc symbol) (made ++ (best .divisor ∷ [])) (rowsAfter symbol (best .divisor) rows) in
+    -- no more steps are asked for
+    rest-spent : record { divisors = made; replacements = k; remainingRows = rows } ≡ withRest made k (eliminate order zero symbol made rows)
+    unfolding eliminate
+    rest-spent = rest-none
+
+    rest-ends : (left : ℕ) → best .score < 2 → record { divisors = made; replacements = k; remainingRows = rows } ≡ withRest made k (eliminate order left symbol made rows)
+    rest-ends left h = rest-none ∙ ap (withRest made k) (sym (eliminate-ends order symbol made rows left h))
+
+    rest-goes-on : (left : ℕ) → 2 ≤ best .score
+        → withRest (made ++ (best .divisor ∷ [])) (k + best .score) (eliminate order left (suc symbol) (made ++ (best .divisor ∷ [])) (rowsAfter symbol (best .divisor) rows))
+        ≡ withRest made k (eliminate order (suc left) symbol made rows)
+    rest-goes-on left h =
+        let e : Eliminated = eliminate order left (suc symbol) (made ++ (best .divisor ∷ [])) (rowsAfter symbol (best .divisor) rows) in
         let sum : (k + best .score) + e .replacements ≡ k + (best .score + e .replacements) = omega arith in
         ap₂ (λ (ds : List Divisor) (j : ℕ). record { divisors = ds; replacements = j; remainingRows = e .remainingRows })
         (append-assoc made (best .divisor ∷ []) (e .divisors)) sum
-        ∙ ap (withRest made k) (sym (from-goes-on order symbol made rows h))
+        ∙ ap (withRest made k) (sym (eliminate-goes-on order symbol made rows left h))
 
 -- ---- before each step
 
--- the operations are those of the divisors made so far, the table holds their depths, and what is left to do comes to elimination's end
-pub record BeforeStep (n : ℕ) (first : List Row) (symbol : ℕ) (operations : List Operation) (table : List ℕ) (k : ℕ) (rows : List Row) : Type 0 where
+-- the operations are those of the divisors made so far, the table holds their depths, and what is left to do, with so many steps, comes to
+-- elimination's end
+pub record BeforeStep (most n : ℕ) (first : List Row) (left symbol : ℕ) (operations : List Operation) (table : List ℕ) (k : ℕ) (rows : List Row) : Type 0 where
   pub made : List Divisor
   pub operations-made : operations ≡ map divisorOperation made
   pub depths-held : HoldsDepths n operations table
@@ -70,11 +75,11 @@ pub record BeforeStep (n : ℕ) (first : List Row) (symbol : ℕ) (operations : 
   pub next-symbol : symbol ≡ n + length made
   pub few : 2 * length made + plainCount rows ≤ maxOperations
   pub replaced : k + plainCount rows ≤ maxOperations
-  pub rest : withRest made k (restOf (shallowestFirst n) symbol made rows) ≡ elimination (shallowestFirst n) n first
+  pub rest : withRest made k (eliminate (shallowestFirst n) left symbol made rows) ≡ eliminate (shallowestFirst n) most n [] first
 
-pub before-first : (n : ℕ) (rows : List Row) (table : List ℕ) → Ready n rows → n ≤ maxColumns → plainCount rows ≤ maxOperations → table ≡ filled maxSymbols 0
-    → BeforeStep n rows n [] table 0 rows
-before-first n rows table ready columns few blank =
+pub before-first : (most n : ℕ) (rows : List Row) (table : List ℕ) → Ready n rows → n ≤ maxColumns → plainCount rows ≤ maxOperations → table ≡ filled maxSymbols 0
+    → BeforeStep most n rows most n [] table 0 rows
+before-first most n rows table ready columns few blank =
     record {
       made = [];
       operations-made = refl;
@@ -83,17 +88,23 @@ before-first n rows table ready columns few blank =
       next-symbol = omega arith;
       few = omega (arith, few);
       replaced = omega (arith, few);
-      rest = rest-start (shallowestFirst n) n rows;
+      rest = rest-start (shallowestFirst n) most n rows;
     }
 
-module _ {n : ℕ} {first : List Row} {symbol : ℕ} {operations : List Operation} {table : List ℕ} {k : ℕ} {rows : List Row}
-    (b : BeforeStep n first symbol operations table k rows) where
+module _ {most n : ℕ} {first : List Row} {left symbol : ℕ} {operations : List Operation} {table : List ℕ} {k : ℕ} {rows : List Row}
+    (b : BeforeStep most n first left symbol operations table k rows) where
   pub length-made : length operations ≡ length (b .made)
   length-made = ap length (b .operations-made) ∙ length-map (b .made) divisorOperation
 
-  -- there is a table of the rows
-  pub within-table : n ≤ maxColumns → Ready termSymbols rows
-  within-table h = ready-below symbol termSymbols (omega (arith, b .next-symbol, b .few)) rows (b .ready)
+  -- the next symbol is at most one past those of terms
+  pub symbols-few : n ≤ maxColumns → symbol ≤ termSymbols
+  symbols-few h = omega (arith, b .next-symbol, b .few)
+
+  pub spent-is : left ≡ 0 → record { divisors = b .made; replacements = k; remainingRows = rows } ≡ eliminate (shallowestFirst n) most n [] first
+  spent-is z =
+      rest-spent (shallowestFirst n) symbol (b .made) k rows
+      ∙ sym (ap (λ (j : ℕ). withRest (b .made) k (eliminate (shallowestFirst n) j symbol (b .made) rows)) z)
+      ∙ b .rest
 
   -- the depths in the table are those of the divisors made so far
   pick-by-table : pick (shallower table) rows ≡ pick (shallowestFirst n (b .made)) rows
@@ -107,8 +118,8 @@ module _ {n : ℕ} {first : List Row} {symbol : ℕ} {operations : List Operatio
     picked : best ≡ pick (shallowestFirst n (b .made)) rows
     picked = found ∙ pick-by-table
 
-    pub ended-is : best .score < 2 → record { divisors = b .made; replacements = k; remainingRows = rows } ≡ elimination (shallowestFirst n) n first
-    ended-is h = rest-ends (shallowestFirst n) symbol (b .made) k rows (rw picked at h) ∙ b .rest
+    pub ended-is : best .score < 2 → record { divisors = b .made; replacements = k; remainingRows = rows } ≡ eliminate (shallowestFirst n) most n [] first
+    ended-is h = rest-ends (shallowestFirst n) symbol (b .made) k rows left (rw picked at h) ∙ b .rest
 
     module _ (h : 2 ≤ best .score) where
       -- its score is that of its divisor
@@ -123,7 +134,7 @@ module _ {n : ℕ} {first : List Row} {symbol : ℕ} {operations : List Operatio
       next-within l = omega (arith, plain-less, b .next-symbol, b .few)
 
       -- its symbols have come into being
-      within : DivisorWithin positions symbol (best .divisor)
+      pub within : DivisorWithin positions symbol (best .divisor)
       within = divisor-within positions symbol (best .divisor) rows (b .ready .well-formed) (omega (arith, scores))
 
       pub earlier : (divisorOperation (best .divisor) .a < symbol) × (divisorOperation (best .divisor) .b < symbol)
@@ -134,9 +145,13 @@ module _ {n : ℕ} {first : List Row} {symbol : ℕ} {operations : List Operatio
           operands-fit n operations table (b .depths-held) (divisorOperation (best .divisor))
           (omega (arith, length-made, b .next-symbol, within .a)) (omega (arith, length-made, b .next-symbol, within .b)) (omega (arith, length-made, b .few))
 
-      pub before-next : n ≤ maxColumns → (after : List Operation) → after ≡ operations ++ (divisorOperation (best .divisor) ∷ [])
-          → BeforeStep n first (suc symbol) after (set table symbol (operationDepth table (divisorOperation (best .divisor)))) (k + best .score) (rowsAfter symbol (best .divisor) rows)
-      before-next columns after a =
+      -- its terms are in order
+      pub proper : Proper (best .divisor)
+      proper = scored-proper positions symbol (best .divisor) rows (b .ready .well-formed) (omega (arith, scores))
+
+      pub before-next : n ≤ maxColumns → (next : ℕ) → left ≡ suc next → (after : List Operation) → after ≡ operations ++ (divisorOperation (best .divisor) ∷ [])
+          → BeforeStep most n first next (suc symbol) after (set table symbol (operationDepth table (divisorOperation (best .divisor)))) (k + best .score) (rowsAfter symbol (best .divisor) rows)
+      before-next columns next one-less after a =
           let d : Divisor = best .divisor in
           let o : Operation = divisorOperation d in
           let l : length (b .made ++ (d ∷ [])) ≡ length (b .made) + 1 = length-append (b .made) (d ∷ []) in
@@ -149,5 +164,8 @@ module _ {n : ℕ} {first : List Row} {symbol : ℕ} {operations : List Operatio
             next-symbol = omega (arith, l, b .next-symbol);
             few = omega (arith, l, plain-less, b .few);
             replaced = omega (arith, plain-less, b .replaced);
-            rest = rw picked (rest-goes-on (shallowestFirst n) symbol (b .made) k rows (rw picked at h)) ∙ b .rest;
+            rest =
+                rw picked (rest-goes-on (shallowestFirst n) symbol (b .made) k rows next (rw picked at h))
+                ∙ sym (ap (λ (j : ℕ). withRest (b .made) k (eliminate (shallowestFirst n) j symbol (b .made) rows)) one-less)
+                ∙ b .rest;
           }

@@ -1,8 +1,8 @@
 -- Document 01, "Netlist and board machine": what a matrix record that is not declined gives each part of compile, and compile's answer.
 -- Assumes nothing.
 use Prim.Native.Nat.{ℕ, _+_, _≤_}
-use mathlib.Core.Path.{_≡_, refl, _∙_}
-use mathlib.Core.List.{List, _++_, map}
+use mathlib.Core.Path.{_≡_, refl, ap, _∙_}
+use mathlib.Core.List.{List, [], _++_, map}
 use native.Mathlib.Omega.{arith}
 use lib.ListN.{length, length-map}
 use Rattle.limits.specs.Limits.{maxRows, positions, maxOperations}
@@ -11,7 +11,7 @@ use Rattle.layout_rules.specs.declared.Output.{Output}
 use Rattle.layout_rules.specs.Matrix.{matrixRefusal, matrix, rows, columns}
 use Rattle.layout_rules.proofs.LittleEndian.{AreBytes}
 use Rattle.elimination_rules.specs.Rows.{Row, matrixRows, plainCount}
-use Rattle.elimination_rules.specs.Elimination.{Eliminated, shallowestFirst, elimination, matrixElimination}
+use Rattle.elimination_rules.specs.Elimination.{Eliminated, shallowestFirst, eliminate, elimination, matrixElimination}
 use Rattle.elimination_rules.proofs.Order.{Columns}
 use Rattle.elimination_rules.proofs.Counts.{steps-plain}
 use Rattle.elimination_rows.specs.State.{Ready}
@@ -72,6 +72,11 @@ pub outputs-of : (k : ℕ) (end : Eliminated) (next : ℕ) (all : List Output) (
     → all ≡ rowOutputs next remaining → next ≡ k + length (end .divisors) → remaining ≡ end .remainingRows → all ≡ outputsOf k end
 unfolding outputsOf
 outputs-of k end next all remaining a d r = a ∙ rw (d, r)
+
+-- elimination makes at most as many steps as the plain count
+pub enough-steps : (n : ℕ) (first : List Row) (most : ℕ) → most ≡ plainCount first → eliminate (shallowestFirst n) most n [] first ≡ elimination (shallowestFirst n) n first
+unfolding elimination
+enough-steps n first most e = ap (λ (k : ℕ). eliminate (shallowestFirst n) k n [] first) e
 
 pub elimination-is : (bytes : List ℕ) → elimination (shallowestFirst (columns bytes)) (columns bytes) (matrixRows positions (matrix bytes)) ≡ eliminationOf bytes
 unfolding matrixElimination

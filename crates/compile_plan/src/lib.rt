@@ -1,7 +1,7 @@
 // Document 01, "Elimination" and "Netlist and board machine": the operations and outputs of a matrix record, without widths, and what
-// compile counts. Rests on `elimination_pick`, `elimination_step`, `compile_chains` and `layout_matrix`.
-mod rows; // rows.rt: the rows of a matrix record
-mod eliminated; // eliminated.rt: elimination to its end
+// compile counts. Rests on `elimination_state`, `compile_chains` and `layout_matrix`.
+pub mod rows; // rows.rt: the rows of a matrix record
+pub mod eliminated; // eliminated.rt: elimination
 
 use compile_lists::operations::Operations;
 use compile_lists::outputs::Outputs;
@@ -26,7 +26,9 @@ pub fn plan(matrix: &[u8]) -> Planned
     let n = matrix[5] as usize;
     let first = rows::matrix_rows(matrix, m, n);
     let plain = compile_chains::plain_count(first);
-    let end = eliminated::eliminate_rows(first, n as u16);
+    let mut keys = elimination_kept::blank_keys();
+    let mut scores = elimination_kept::blank_scores();
+    let end = eliminated::eliminate_rows(first, n as u16, plain, &mut keys, &mut scores);
     let made = end.operations;
     let remaining = end.rows;
     let count = made.count();

@@ -23,7 +23,7 @@ fn matrix_row(bytes: &[u8], index: usize, n: usize) -> Row
 }
 
 // The rows of a matrix record of m rows and n columns.
-pub(crate) fn matrix_rows(bytes: &[u8], m: usize, n: usize) -> Rows
+pub fn matrix_rows(bytes: &[u8], m: usize, n: usize) -> Rows
     requires { ⌜ (m ≤ maxRows) × (n ≤ maxColumns) × (matrixLength m n ≤ length (now bytes)) ⌝ }
     ensures { λ r. ⌜ rowsTerms r ≡ matrixRows positions (rowsFrom (now (bytes .entry)) n 0 m) ⌝ }
 {

@@ -11,8 +11,9 @@ use Rattle.layout_rules.specs.Places.{netlistLength}
 use Rattle.layout_rules.proofs.Lengths.{length-netlist}
 use Rattle.elimination_rules.specs.declared.Divisor.{Divisor}
 use Rattle.elimination_rules.specs.Rows.{Row, plainCount}
-use Rattle.elimination_rules.specs.Elimination.{Eliminated, rowsAfter}
+use Rattle.elimination_rules.specs.Elimination.{Eliminated}
 use Rattle.elimination_rules.specs.Steps.{Steps, end, step}
+use Rattle.elimination_rules.proofs.Order.{length-rows-after}
 use Rattle.elimination_rules.proofs.Counts.{steps-operations, steps-twice}
 use Rattle.compile_rules.specs.Chains.{divisorOperation, chains}
 use Rattle.compile_rules.specs.Compile.{operationsOf, outputsOf, withWidths, outputWithWidth, netlistOf}
@@ -42,11 +43,6 @@ pub operations-fewer : (n : ℕ) (rows : List Row) (e : Eliminated) → Stepped 
 operations-fewer n rows e s = omega (arith, operations-count n rows e s, steps-twice s)
 
 -- ---- outputs: one for each row
-
-length-rows-after : (symbol : ℕ) (d : Divisor) (rows : List Row) → length (rowsAfter symbol d rows) ≡ length rows
-unfolding rowsAfter
-length-rows-after symbol d [] = refl
-length-rows-after symbol d (r ∷ rows) = ap suc (length-rows-after symbol d rows)
 
 steps-rows : {symbol : ℕ} {rows : List Row} {ds : List Divisor} {k : ℕ} {after : List Row} → Steps symbol rows ds k after → length after ≡ length rows
 steps-rows end = refl

@@ -68,8 +68,9 @@ fn write_operations(
     ensures { λ _. ⌜ now (buffer .exit) ≡ written (now (buffer .entry)) headLength (flatMap operationBytes (withWidths sampleWidth n (operationsList operations) n (operationsList operations))) ⌝ }
 {
     let count = operations.count();
+    let list = operations.list();
     for k in 0..count {
-        let o = operations.operation(k);
+        let o = list[k];
         let place = operation_place(HEAD_LENGTH, k);
         write_operation(&mut buffer[place..], forms, o, n + k, n);
     }
@@ -108,10 +109,11 @@ fn depth_of(operations: Operations, n: usize) -> u16
     ensures { λ r. ⌜ r ≡ depth n (operationsList operations) ⌝ }
 {
     let count = operations.count();
+    let list = operations.list();
     let mut depths = board_tables::blank_depths();
     let mut largest: u16 = 0;
     for k in 0..count {
-        let depth = board_tables::operation_depth(&depths, operations.operation(k));
+        let depth = board_tables::operation_depth(&depths, list[k]);
         depths[n + k] = depth;
         largest = integers::larger(largest, depth);
     }

@@ -1,4 +1,5 @@
 pub mod Filled
+pub mod InArray
 pub mod Members
 pub mod Columns
 pub mod Ready

@@ -11,7 +11,7 @@ use Rattle.limits.specs.Limits.{maxRows, maxColumns, positions, maxDigits, maxT
 use Rattle.elimination_rules.specs.declared.Divisor.{Divisor}
 use Rattle.elimination_rules.specs.Rows.{Row, WellFormed, EachRow, rowFrom, matrixRows, plainCount}
 use Rattle.elimination_rules.specs.Elimination.{rowsAfter}
-use Rattle.elimination_rules.proofs.Order.{each-row, rows-well-formed-after, Columns, matrix-well-formed}
+use Rattle.elimination_rules.proofs.Order.{each-row, rows-well-formed-after, length-rows-after, Columns, matrix-well-formed}
 use Rattle.elimination_rules.proofs.Counts.{matrix-plain}
 use Rattle.elimination_rules.proofs.Replaced.{length-after}
 use Rattle.elimination_rows.specs.State.{Ready}
@@ -44,11 +44,6 @@ pub ready-below : (symbol higher : ℕ) → symbol ≤ higher → (rows : List R
 ready-below symbol higher h rows ready = record { few = ready .few; short = ready .short; well-formed = well-formed-below symbol higher h rows (ready .well-formed) }
 
 -- ---- the rows after a step
-
-length-rows-after : (symbol : ℕ) (d : Divisor) (rows : List Row) → length (rowsAfter symbol d rows) ≡ length rows
-unfolding rowsAfter
-length-rows-after symbol d [] = refl
-length-rows-after symbol d (r ∷ rs) = ap suc (length-rows-after symbol d rs)
 
 short-after : (symbol most : ℕ) (d : Divisor) (rows : List Row) → EachRow (λ r. length r ≤ most) rows → EachRow (λ r. length r ≤ most) (rowsAfter symbol d rows)
 unfolding rowsAfter

@@ -2,7 +2,7 @@
 -- Assumes nothing.
 use Prim.Native.Nat.{ℕ, _≤_}
 use mathlib.Core.Bool.{false}
-use mathlib.Core.List.{List, map}
+use mathlib.Core.List.{List, [], map}
 use lib.ListN.{length, take}
 use Rattle.limits.specs.Limits.{maxRows, positions, maxTerms}
 use Rattle.term.specs.declared.Term.{Term}
@@ -13,6 +13,10 @@ use Rattle.elimination_rows.specs.declared.rows.Rows.{Rows}
 -- what stands past a row's end
 abbrev pub noTerm : Term
 noTerm = record { symbol = 0; exponent = 0; negative = false }
+
+-- and past the last row
+abbrev pub noRow : Row
+noRow = record { terms = []; count = 0 }
 
 unfoldable pub rowTerms : Row → List Term
 rowTerms r = take (r .count) (r .terms)

@@ -1,4 +1,3 @@
 // Document 01, "Digits and terms" and "Elimination": the rows, by value. Rests on `limits`, `term`, `digits` and `elimination_lookup`.
 pub mod row; // row.rt: a row of terms
 pub mod rows; // rows.rt: all rows
-pub mod taken; // taken.rt: what is taken of a divisor in a row

@@ -8,7 +8,7 @@ use term::Term;
 ghost use mathlib.Core.Path.{_≡_};
 ghost use mathlib.Core.List.{[], _∷_, _++_};
 ghost use Prim.Native.Nat.{_-_, _<_, _≤_};
-ghost use lib.ListN.{length, getD};
+ghost use lib.ListN.{length, getD, take};
 ghost use Rattle.limits.specs.Limits.{positions, maxDigits, maxTerms, termSymbols};
 ghost use Rattle.digits.specs.Digits.{digits};
 ghost use Rattle.elimination_rules.specs.Rows.{columnTerms};
@@ -68,6 +68,21 @@ impl Row {
         let count = self.count();
         let terms = self.terms;
         lookup_among(terms, count, symbol, exponent)
+    }
+
+    // The terms, and past the last of them what is no part of the row.
+    pub fn terms(self) -> [Term; MAX_TERMS]
+        ensures { λ r. ⌜ take (length (rowTerms self)) r ≡ rowTerms self ⌝ }
+    {
+        self.terms
+    }
+
+    // The row of the first terms.
+    pub fn of(terms: [Term; MAX_TERMS], count: usize) -> Row
+        requires { ⌜ count ≤ maxTerms ⌝ }
+        ensures { λ r. ⌜ rowTerms r ≡ take count terms ⌝ }
+    {
+        Row { terms, count }
     }
 
     // The term of a digit, if it is not 0.

@@ -3,9 +3,9 @@
 use crate::row::Row;
 use limits::MAX_ROWS;
 ghost use mathlib.Core.Path.{_≡_};
-ghost use mathlib.Core.List.{[], _∷_, _++_};
-ghost use Prim.Native.Nat.{_<_};
-ghost use lib.ListN.{length, getD};
+ghost use mathlib.Core.List.{[], _∷_, _++_, map};
+ghost use Prim.Native.Nat.{_<_, _≤_};
+ghost use lib.ListN.{length, getD, take};
 ghost use Rattle.limits.specs.Limits.{maxRows};
 ghost use Rattle.elimination_rows.specs.State.{rowTerms, rowsTerms};
 
@@ -49,5 +49,20 @@ impl Rows {
         ensures { λ r. ⌜ rowTerms r ≡ getD (rowsTerms self) i [] ⌝ }
     {
         self.rows[i]
+    }
+
+    // The rows, and past the last of them what is no part of these.
+    pub fn all(self) -> [Row; MAX_ROWS]
+        ensures { λ r. ⌜ map rowTerms (take (length (rowsTerms self)) r) ≡ rowsTerms self ⌝ }
+    {
+        self.rows
+    }
+
+    // The first rows.
+    pub fn of(rows: [Row; MAX_ROWS], m: usize) -> Rows
+        requires { ⌜ m ≤ maxRows ⌝ }
+        ensures { λ r. ⌜ rowsTerms r ≡ map rowTerms (take m rows) ⌝ }
+    {
+        Rows { rows, m }
     }
 }

@@ -16,7 +16,8 @@ pub mod Elimination
 pub mod Marked
 pub mod LookupSigns
 pub mod LookupTaken
-pub mod LookupPick
+pub mod PairScores
 pub mod Rank
 pub mod LookupAfter
 pub mod LookupFlags
+pub mod SignsAfter

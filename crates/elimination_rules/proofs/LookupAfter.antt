@@ -11,10 +11,10 @@ use lib.ListN.{getD}
 use borrow.Author.Tests.{eqb-true, eq-eqb, leb-true, le-leb}
 use Rattle.term.specs.declared.Term.{Term}
 use Rattle.elimination_rules.specs.declared.Divisor.{Divisor}
-use Rattle.elimination_rules.specs.Rows.{Row, Ascending, WellFormed, EachRow}
+use Rattle.elimination_rules.specs.Rows.{Row, Ascending}
 use Rattle.elimination_rules.specs.Divisors.{Pair, coDivisor, signOf}
-use Rattle.elimination_rules.specs.Elimination.{sameTerm, dropTerm, withoutPairs, newTerms, rowAfter, rowsAfter}
-use Rattle.elimination_rules.specs.Lookup.{ExponentsBelow, Proper, Signs, signAt, takenFlags, termAt, pairAt, pairsFrom, partAs, partOfTaken, keptTerms, lookupTermsFrom, lookupRowAfter, lookupRowsAfter}
+use Rattle.elimination_rules.specs.Elimination.{sameTerm, dropTerm, withoutPairs, newTerms, rowAfter}
+use Rattle.elimination_rules.specs.Lookup.{ExponentsBelow, Proper, Signs, signAt, takenFlags, termAt, pairAt, pairsFrom, partAs, partOfTaken, keptTerms, lookupTermsFrom, lookupRowAfter}
 use Rattle.elimination_rules.proofs.Tests.{by-bool, by-test, and-left, and-right, and-both, or-left, or-right, or-cases, or-neither}
 use Rattle.elimination_rules.proofs.Same.{same-term, term-same}
 use Rattle.elimination_rules.proofs.RowOrder.{sign-in-order}
@@ -227,7 +227,7 @@ new-terms symbol signs d proper c (true ∷ flags) =
     ap₂ _∷_ (λ i. record { symbol = symbol; exponent = e i; negative = n i }) (new-terms symbol signs d proper (suc c) flags)
 new-terms symbol signs d proper c (false ∷ flags) = new-terms symbol signs d proper (suc c) flags
 
--- ---- the row, and the rows, after a step
+-- ---- the row after a step
 
 pub row-after-looked-up : (positions symbol : ℕ) (d : Divisor) → Proper d → (r : Row) → Ascending r → ExponentsBelow positions r
     → lookupRowAfter positions symbol d r ≡ rowAfter symbol d r
@@ -235,10 +235,3 @@ unfolding lookupRowAfter rowAfter
 row-after-looked-up positions symbol d proper r a b =
     let flags : List Bool = takenFlags (signAt r) d positions in
     sym (ap (λ ps. withoutPairs ps r ++ newTerms symbol ps) (taken-looked-up positions d proper r a b) ∙ ap₂ _++_ (kept-terms d flags r a) (new-terms symbol (signAt r) d proper 0 flags))
-
-pub rows-after-looked-up : (positions symbol : ℕ) (d : Divisor) → Proper d → (rows : List Row) → EachRow (WellFormed positions symbol) rows
-    → lookupRowsAfter positions symbol d rows ≡ rowsAfter symbol d rows
-unfolding lookupRowsAfter rowsAfter
-rows-after-looked-up positions symbol d proper [] w = refl
-rows-after-looked-up positions symbol d proper (r ∷ rs) w =
-    ap₂ _∷_ (row-after-looked-up positions symbol d proper r (w .0 .ascending) (w .0 .exponents)) (rows-after-looked-up positions symbol d proper rs (w .1))

@@ -41,11 +41,11 @@ module _ (signs : Signs) (d : Divisor) (proper : Proper d) where
 
 -- ---- the sign at a place
 
-sign-yes : (t : Term) (r : Row) (u : Term) → samePlace t u ≡ true → signAt (t ∷ r) (u .symbol) (u .exponent) ≡ signNumber (t .negative)
+pub sign-yes : (t : Term) (r : Row) (u : Term) → samePlace t u ≡ true → signAt (t ∷ r) (u .symbol) (u .exponent) ≡ signNumber (t .negative)
 unfolding signAt
 sign-yes t r u e = rw (e, signAt)
 
-sign-no : (t : Term) (r : Row) (u : Term) → samePlace t u ≡ false → signAt (t ∷ r) (u .symbol) (u .exponent) ≡ signAt r (u .symbol) (u .exponent)
+pub sign-no : (t : Term) (r : Row) (u : Term) → samePlace t u ≡ false → signAt (t ∷ r) (u .symbol) (u .exponent) ≡ signAt r (u .symbol) (u .exponent)
 unfolding signAt
 sign-no t r u e = rw (e, signAt)
 
@@ -88,10 +88,14 @@ looked-up-there r a symbol exponent h =
     let e : k .0 ≡ termAt (signAt r) symbol exponent = term-looked-up r a (k .0) (k .1) ∙ ap₂ (termAt (signAt r)) (k .2) (k .3) in
     Memᴰ·cast (sym e) (k .1)
 
-pub none-past : (positions : ℕ) (r : Row) → ExponentsBelow positions r → (symbol exponent : ℕ) → positions ≤ exponent → signAt r symbol exponent ≡ 0
-none-past positions r b symbol exponent h = by-bool (eqb (signAt r symbol exponent) 0)
+-- where no term stands the sign is 0
+pub none-there : (r : Row) (symbol exponent : ℕ) → ((t : Term) → List·Memᴰ t r → t .symbol ≡ symbol → t .exponent ≡ exponent → ⊥) → signAt r symbol exponent ≡ 0
+none-there r symbol exponent h = by-bool (eqb (signAt r symbol exponent) 0)
     (λ e. eqb-true _ _ e)
-    (λ e. let k = term-there r symbol exponent (eqb-false _ _ e) in absurd (omega (arith, b (k .0) (k .1), k .3)))
+    (λ e. let k = term-there r symbol exponent (eqb-false _ _ e) in absurd (h (k .0) (k .1) (k .2) (k .3)))
+
+pub none-past : (positions : ℕ) (r : Row) → ExponentsBelow positions r → (symbol exponent : ℕ) → positions ≤ exponent → signAt r symbol exponent ≡ 0
+none-past positions r b symbol exponent h = none-there r symbol exponent (λ t m s e. omega (arith, b t m))
 
 -- ---- occurrences are looked-up pairs
 
@@ -143,10 +147,10 @@ signs-occur false true = refl
 signs-occur false false = refl
 
 -- an occurrence at a co-divisor has both its terms
-occurs-first : (minus : Bool) (x y : ℕ) → occursWith minus x y ≡ true → x ≡ 0 → ⊥
+pub occurs-first : (minus : Bool) (x y : ℕ) → occursWith minus x y ≡ true → x ≡ 0 → ⊥
 occurs-first minus x y e = eqb-false x 0 (not-true (eqb x 0) (and-left (not (eqb x 0)) _ e))
 
-occurs-second : (minus : Bool) (x y : ℕ) → occursWith minus x y ≡ true → y ≡ 0 → ⊥
+pub occurs-second : (minus : Bool) (x y : ℕ) → occursWith minus x y ≡ true → y ≡ 0 → ⊥
 occurs-second minus x y e = eqb-false y 0 (not-true (eqb y 0) (and-left (not (eqb y 0)) _ (and-right (not (eqb x 0)) _ e)))
 
 pub pair-occurs : (d : Divisor) → Proper d → (r : Row) → Ascending r → (c : ℕ) → occursAt (signAt r) d c ≡ true → Occurrence d r (pairAt (signAt r) d c)

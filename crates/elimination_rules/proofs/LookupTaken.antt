@@ -12,10 +12,10 @@ use lib.Seq.{getD-at}
 use borrow.Author.Tests.{eqb-true, eqb-false, eq-eqb, leb-true, le-leb}
 use Rattle.term.specs.declared.Term.{Term}
 use Rattle.elimination_rules.specs.declared.Divisor.{Divisor}
-use Rattle.elimination_rules.specs.Rows.{Row, Precedes, Ascending, WellFormed, EachRow}
-use Rattle.elimination_rules.specs.Divisors.{Pair, coDivisor, pairsWith, pairsOf, sameDivisor, overlap, overlapsAny, occurrences, taking, taken, score}
+use Rattle.elimination_rules.specs.Rows.{Row, Precedes, Ascending}
+use Rattle.elimination_rules.specs.Divisors.{Pair, coDivisor, pairsWith, pairsOf, sameDivisor, overlap, overlapsAny, occurrences, taking, taken}
 use Rattle.elimination_rules.specs.RowOrder.{rowOrderDivisor, rowOrderPairs, rowOrderOccurrences}
-use Rattle.elimination_rules.specs.Lookup.{ExponentsBelow, Proper, Signs, signAt, occursAt, overlapsTaken, takenFlags, pairAt, pairsFrom, countTrue, lookupScore, rowsSigns}
+use Rattle.elimination_rules.specs.Lookup.{ExponentsBelow, Proper, Signs, signAt, occursAt, overlapsTaken, takenFlags, pairAt, pairsFrom, countTrue}
 use Rattle.elimination_rules.proofs.Tests.{by-bool, by-test, clash}
 use Rattle.elimination_rules.proofs.Same.{same-divisor}
 use Rattle.elimination_rules.proofs.RowOrder.{InRowOrder, Placed, placed, occurrence, all-occurrences, divisor-in-order, with-member, pairs-member, pairs-in-order, occurrences-in-order}
@@ -304,10 +304,3 @@ count-from signs d c (false ∷ flags) = count-from signs d (suc c) flags
 pub taken-count : (positions : ℕ) (d : Divisor) → Proper d → (r : Row) → Ascending r → ExponentsBelow positions r
     → length (taken d r) ≡ countTrue (takenFlags (signAt r) d positions)
 taken-count positions d proper r a b = ap length (taken-looked-up positions d proper r a b) ∙ count-from (signAt r) d 0 (takenFlags (signAt r) d positions)
-
-pub score-looked-up : (positions symbol : ℕ) (d : Divisor) → Proper d → (rows : List Row) → EachRow (WellFormed positions symbol) rows
-    → score d rows ≡ lookupScore positions (rowsSigns rows) d
-unfolding score lookupScore
-score-looked-up positions symbol d proper [] w = refl
-score-looked-up positions symbol d proper (r ∷ rs) w =
-    ap₂ _+_ (taken-count positions d proper r (w .0 .ascending) (w .0 .exponents)) (score-looked-up positions symbol d proper rs (w .1))

@@ -175,6 +175,20 @@ unfolding rowsAfter
 rows-well-formed-after positions symbol d [] w = tt
 rows-well-formed-after positions symbol d (r ∷ rows) w = (well-formed-after positions symbol d r (w .0), rows-well-formed-after positions symbol d rows (w .1))
 
+-- a row after a step is one of the rows, after the step; and there are as many
+pub rows-after-member : (symbol : ℕ) (d : Divisor) (rows : List Row) (after : Row) → List·Memᴰ after (rowsAfter symbol d rows) → (r : Row) × List·Memᴰ r rows × (after ≡ rowAfter symbol d r)
+unfolding rowsAfter
+rows-after-member symbol d [] after m = absurd (List·Memᴰ·not-nil m)
+rows-after-member symbol d (r ∷ rows) after m = ⊎-elim
+    (λ e. (r, List·Memᴰ·head refl, e))
+    (λ k. let h = rows-after-member symbol d rows after k in (h .0, List·Memᴰ·tail (h .1), h .2))
+    (List·Memᴰ·cases-cons m)
+
+pub length-rows-after : (symbol : ℕ) (d : Divisor) (rows : List Row) → length (rowsAfter symbol d rows) ≡ length rows
+unfolding rowsAfter
+length-rows-after symbol d [] = refl
+length-rows-after symbol d (r ∷ rows) = ap suc (length-rows-after symbol d rows)
+
 -- ---- after any steps, symbols are below the first one plus the number of divisors
 
 next-symbol : (symbol n : ℕ) → suc symbol + n ≡ symbol + suc n

@@ -1,7 +1,8 @@
--- A divisor's rank: on divisors within the limits the lower rank is that of the divisor which goes first, so the pick by ranks is the pick.
+-- A divisor's key and rank: a key is that of one divisor, and on divisors within the limits the lower rank is that of the divisor which
+-- goes first.
 -- Of the depths, only those of symbols in the rows count.
 -- Assumes nothing.
-use Prim.Native.Nat.{ℕ, suc, _+_, _*_, _≤_, _<_, max}
+use Prim.Native.Nat.{ℕ, zero, suc, _+_, _*_, _/_, _%_, _≤_, _<_, max}
 use mathlib.Core.Path.{_≡_, refl, sym, _∙_, ap, ap₂}
 use mathlib.Core.Logic.{inl}
 use mathlib.Core.Bool.{Bool, true, false, not, _&&_, _||_, and-false, or-false}
@@ -15,12 +16,12 @@ use Rattle.elimination_rules.specs.declared.Divisor.{Divisor}
 use Rattle.elimination_rules.specs.Rows.{Row, WellFormed, EachRow}
 use Rattle.elimination_rules.specs.Divisors.{Pair, divisorOf}
 use Rattle.elimination_rules.specs.Elimination.{divisorDepth, smaller, before, shallower, allPairs, pick}
-use Rattle.elimination_rules.specs.Rank.{symbolRoom, exponentRoom, signKey, divisorKey, keyRoom, divisorRank, lowerRank}
+use Rattle.elimination_rules.specs.Rank.{symbolRoom, exponentRoom, signKey, divisorKey, keyRoom, keyDivisor, divisorRank, lowerRank}
 use Rattle.elimination_rules.proofs.Tests.{by-bool}
 use Rattle.elimination_rules.proofs.Order.{DivisorWithin, divisor-within}
 use Rattle.elimination_rules.proofs.Pick.{pick-agrees}
 use Rattle.elimination_rules.proofs.Ties.{yes-smaller}
-use Rattle.elimination_rules.proofs.LookupPick.{pair-scores}
+use Rattle.elimination_rules.proofs.PairScores.{pair-scores}
 
 -- ---- a number in front of another
 
@@ -32,7 +33,7 @@ module _ (x y : ℕ) (otherwise : Bool) where
   smaller-equal h = rw (le-ltb x y (omega arith), eq-eqb x y h)
 
 -- the three cases of two numbers
-by-order {ℓ} : {P : Type ℓ} (x y : ℕ) → (x < y → P) → (x ≡ y → P) → (y < x → P) → P
+pub by-order {ℓ} : {P : Type ℓ} (x y : ℕ) → (x < y → P) → (x ≡ y → P) → (y < x → P) → P
 by-order x y less equal more = by-bool (ltb x y)
     (λ e. less (ltb-true x y e))
     (λ e. by-bool (ltb y x)
@@ -98,15 +99,44 @@ module _ (positions symbol : ℕ) (enough-positions : positions ≤ exponentRoom
         key-room : (x : Divisor) → DivisorWithin positions symbol x → divisorKey x < keyRoom
         key-room x w = omega (arith, sign-room (x .minus), w .a, w .b, w .ea, w .eb)
 
+-- ---- the divisor of a key
+
+sign-of-key : (m : Bool) → eqb (signKey m) 1 ≡ m
+sign-of-key true = refl
+sign-of-key false = refl
+
+key-of-sign : (n : ℕ) → n < 2 → signKey (eqb n 1) ≡ n
+key-of-sign zero h = refl
+key-of-sign (suc zero) h = refl
+key-of-sign (suc (suc n)) h = absurd (omega arith)
+
+pub key-divisor : (d : Divisor) → d .b < symbolRoom → d .ea < exponentRoom → d .eb < exponentRoom → keyDivisor (divisorKey d) ≡ d
+unfolding keyDivisor
+key-divisor d b ea eb =
+    let s : signKey (d .minus) < 2 = sign-room (d .minus) in
+    let key : ℕ = divisorKey d in
+    let is-a : key / (symbolRoom * exponentRoom * exponentRoom * 2) ≡ d .a = omega arith in
+    let is-b : key / (exponentRoom * exponentRoom * 2) % symbolRoom ≡ d .b = omega arith in
+    let is-ea : key / (exponentRoom * 2) % exponentRoom ≡ d .ea = omega arith in
+    let is-eb : key / 2 % exponentRoom ≡ d .eb = omega arith in
+    let is-sign : key % 2 ≡ signKey (d .minus) = omega arith in
+    rw (is-a, is-b, is-ea, is-eb, is-sign, sign-of-key (d .minus)) refl
+
+pub divisor-key : (key : ℕ) → divisorKey (keyDivisor key) ≡ key
+unfolding keyDivisor
+divisor-key key =
+    let s : signKey (eqb (key % 2) 1) ≡ key % 2 = key-of-sign (key % 2) (omega arith) in
+    let symbols : key / 2048 ≡ key / 1048576 * 512 + key / 2048 % 512 = omega arith in
+    let first : key / 64 ≡ key / 2048 * 32 + key / 64 % 32 = omega arith in
+    let second : key / 2 ≡ key / 64 * 32 + key / 2 % 32 = omega arith in
+    let whole : key ≡ key / 2 * 2 + key % 2 = omega arith in
+    omega (arith, s, symbols, first, second, whole)
+
 -- ---- the pick
 
 module _ (positions symbol : ℕ) (rows : List Row) (well-formed : EachRow (WellFormed positions symbol) rows) where
   within : (p : Pair) → List·Memᴰ p (allPairs rows) → DivisorWithin positions symbol (divisorOf p)
   within p m = divisor-within positions symbol (divisorOf p) rows well-formed (pair-scores positions symbol rows well-formed p m)
-
-  pub pick-by-rank : positions ≤ exponentRoom → symbol ≤ symbolRoom → (depths : List ℕ) → pick (lowerRank depths) rows ≡ pick (shallower depths) rows
-  pick-by-rank enough-positions enough-symbols depths = pick-agrees (lowerRank depths) (shallower depths) rows
-      (λ p q m n. rank-order positions symbol enough-positions enough-symbols (divisorOf p) (divisorOf q) (within p m) (within q n) depths)
 
   pub pick-by-depths : (depths others : List ℕ) → ((s : ℕ) → s < symbol → getD depths s 0 ≡ getD others s 0) → pick (shallower depths) rows ≡ pick (shallower others) rows
   pick-by-depths depths others same = pick-agrees (shallower depths) (shallower others) rows (λ p q m n.

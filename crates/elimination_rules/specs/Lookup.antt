@@ -1,18 +1,17 @@
--- Document 01, "Elimination", as code works it out: by looking up the sign of a symbol and exponent in a row, co-divisor by co-divisor.
+-- Document 01, "Elimination", by the sign that a row has of each symbol and exponent, co-divisor by co-divisor: what the code's masks hold.
 -- These are second definitions: on rows in order they agree with those of `Divisors` and `Elimination`, by the laws of proofs/.
 -- Assumes nothing.
 use Prim.Native.Nat.{ℕ, zero, suc, _+_, _-_, _<_, min}
 use mathlib.Core.Path.{_≡_}
 use mathlib.Core.Logic.{_⊎_}
 use mathlib.Core.Bool.{Bool, true, false, not, _&&_, _||_}
-use mathlib.Core.List.{List, [], _∷_, _++_, map, List·Memᴰ}
+use mathlib.Core.List.{List, [], _∷_, _++_, List·Memᴰ}
 use lib.Dec.{leb, eqb}
 use lib.ListN.{getD}
 use Rattle.term.specs.declared.Term.{Term}
 use Rattle.elimination_rules.specs.declared.Divisor.{Divisor}
 use Rattle.elimination_rules.specs.Rows.{Row}
-use Rattle.elimination_rules.specs.Divisors.{Pair, sameSign, divisorOf}
-use Rattle.elimination_rules.specs.Elimination.{Scored, better, noPairs, allPairs}
+use Rattle.elimination_rules.specs.Divisors.{Pair, sameSign}
 
 -- ---- the rows and divisors of which the definitions below agree with the others
 
@@ -77,32 +76,6 @@ countTrue [] = 0
 countTrue (true ∷ flags) = suc (countTrue flags)
 countTrue (false ∷ flags) = countTrue flags
 
--- the score in rows of which the signs are known, over so many co-divisors
-unfoldable pub lookupScore : ℕ → List Signs → Divisor → ℕ
-unfolding takenFlags countTrue
-lookupScore positions [] d = 0
-lookupScore positions (signs ∷ others) d = countTrue (takenFlags signs d positions) + lookupScore positions others d
-
-abbrev pub rowsSigns : List Row → List Signs
-rowsSigns rows = map signAt rows
-
--- ---- the pick
-
-abbrev pub lookupScored : ℕ → List Signs → Divisor → Scored
-lookupScored positions signs d = record { divisor = d; score = lookupScore positions signs d }
-
--- the best of a scored divisor and those of pairs
-unfoldable pub lookupBest : ℕ → (Divisor → Divisor → Bool) → List Signs → Scored → List Pair → Scored
-unfolding lookupScore divisorOf
-lookupBest positions first signs s [] = s
-lookupBest positions first signs s (p ∷ ps) =
-    let t : Scored = lookupScored positions signs (divisorOf p) in
-    elim (better first t s) [ true ↦ lookupBest positions first signs t ps | false ↦ lookupBest positions first signs s ps ]
-
-unfoldable pub lookupPick : ℕ → (Divisor → Divisor → Bool) → List Row → Scored
-unfolding lookupBest noPairs allPairs signAt
-lookupPick positions first rows = lookupBest positions first (rowsSigns rows) noPairs (allPairs rows)
-
 -- ---- the row after a step
 
 -- a term is part of a taken occurrence, as its first or its second term
@@ -132,8 +105,3 @@ unfolding signAt takenFlags keptTerms lookupTermsFrom
 lookupRowAfter positions symbol d r =
     let flags = takenFlags (signAt r) d positions in
     keptTerms d flags r ++ lookupTermsFrom symbol (signAt r) d 0 flags
-
-unfoldable pub lookupRowsAfter : ℕ → ℕ → Divisor → List Row → List Row
-unfolding lookupRowAfter
-lookupRowsAfter positions symbol d [] = []
-lookupRowsAfter positions symbol d (r ∷ rs) = lookupRowAfter positions symbol d r ∷ lookupRowsAfter positions symbol d rs

@@ -1,10 +1,10 @@
 -- Document 01, "Elimination": a divisor's place in the order among equal scores as one number, so that one comparison decides. These are
 -- second definitions: on divisors within the limits they agree with `shallower`, by the law of proofs/Rank.
 -- Assumes nothing.
-use Prim.Native.Nat.{ℕ, _+_, _*_}
+use Prim.Native.Nat.{ℕ, _+_, _*_, _/_, _%_}
 use mathlib.Core.Bool.{Bool, true, false}
 use mathlib.Core.List.{List}
-use lib.Dec.{ltb}
+use lib.Dec.{ltb, eqb}
 use Rattle.elimination_rules.specs.declared.Divisor.{Divisor}
 use Rattle.elimination_rules.specs.Elimination.{divisorDepth}
 
@@ -26,6 +26,16 @@ divisorKey d = (((d .a * symbolRoom + d .b) * exponentRoom + d .ea) * exponentRo
 
 abbrev pub keyRoom : ℕ
 keyRoom = symbolRoom * symbolRoom * exponentRoom * exponentRoom * 2
+
+-- the divisor of a key
+unfoldable pub keyDivisor : ℕ → Divisor
+keyDivisor key = record {
+  a = key / (symbolRoom * exponentRoom * exponentRoom * 2);
+  b = key / (exponentRoom * exponentRoom * 2) % symbolRoom;
+  ea = key / (exponentRoom * 2) % exponentRoom;
+  eb = key / 2 % exponentRoom;
+  minus = eqb (key % 2) 1;
+}
 
 -- the smallest depth, then the smallest key
 abbrev pub divisorRank : List ℕ → Divisor → ℕ

@@ -1,26 +1,28 @@
-// Document 01, "Elimination": the step of a given divisor, as `elimination_rules` has it. Rests on `elimination_rows`.
+// Document 01, "Elimination": the step of a given divisor, as `elimination_rules` has it, by masks of what is taken in each row.
+// Rests on `bits`, `elimination_masks` and `elimination_rows`.
+use bits::bit_at;
 use elimination_rows::row::Row;
 use elimination_rows::rows::Rows;
-use elimination_rows::taken::Taken;
 use elimination_rules::Divisor;
 use limits::MAX_ROWS;
 use limits::POSITIONS;
 use term::Term;
 ghost use mathlib.Core.Path.{_≡_};
 ghost use mathlib.Core.List.{_++_};
-ghost use Prim.Native.Nat.{_+_, _<_, _≤_};
+ghost use Prim.Native.Nat.{_<_, _≤_};
 ghost use lib.ListN.{length};
 ghost use Rattle.limits.specs.Limits.{positions, maxTerms, termSymbols};
+ghost use Rattle.bits.specs.Bits.{bitsOf};
 ghost use Rattle.elimination_rules.specs.Rows.{WellFormed};
 ghost use Rattle.elimination_rules.specs.Lookup.{ExponentsBelow, Proper, signAt, takenFlags, partAs, partOfTaken, keptTerms, lookupTerm, lookupTermsFrom};
 ghost use Rattle.elimination_rules.specs.Elimination.{rowAfter, rowsAfter};
+ghost use Rattle.elimination_masks.specs.Columns.{TakenMasks};
 ghost use Rattle.elimination_rows.specs.State.{rowTerms, rowsTerms, Ready};
-ghost use Rattle.elimination_rows.specs.Taken.{TakenIn};
 
 // A term of the symbol, whose exponent is that of a taken co-divisor above the given one.
-fn part_as(symbol: u16, exponent: u8, flags: [bool; POSITIONS], t: Term) -> bool
+fn part_as(symbol: u16, exponent: u8, taken: u16, t: Term) -> bool
     requires { ⌜ t .exponent < positions ⌝ }
-    ensures { λ r. ⌜ r ≡ partAs symbol exponent flags t ⌝ }
+    ensures { λ r. ⌜ r ≡ partAs symbol exponent (bitsOf taken positions) t ⌝ }
 {
     if t.symbol() != symbol {
         return false;
@@ -29,37 +31,39 @@ fn part_as(symbol: u16, exponent: u8, flags: [bool; POSITIONS], t: Term) -> bool
     if e < exponent {
         return false;
     }
-    let c = (e - exponent) as usize;
-    flags[c]
+    bit_at(taken, (e - exponent) as u16)
 }
 
 // A term is part of a taken occurrence, as its first or its second term.
-fn part_of_taken(d: Divisor, flags: [bool; POSITIONS], t: Term) -> bool
+fn part_of_taken(d: Divisor, taken: u16, t: Term) -> bool
     requires { ⌜ t .exponent < positions ⌝ }
-    ensures { λ r. ⌜ r ≡ partOfTaken d flags t ⌝ }
+    ensures { λ r. ⌜ r ≡ partOfTaken d (bitsOf taken positions) t ⌝ }
 {
-    if part_as(d.a, d.ea, flags, t) {
+    if part_as(d.a, d.ea, taken, t) {
         return true;
     }
-    part_as(d.b, d.eb, flags, t)
+    part_as(d.b, d.eb, taken, t)
 }
 
 // The terms that are part of no taken occurrence.
-fn kept(d: Divisor, flags: [bool; POSITIONS], row: Row) -> Row
+fn kept_terms(d: Divisor, taken: u16, row: Row) -> Row
     requires { ⌜ ExponentsBelow positions (rowTerms row) × (length (rowTerms row) ≤ maxTerms) ⌝ }
-    ensures { λ r. ⌜ rowTerms r ≡ keptTerms d flags (rowTerms row) ⌝ }
+    ensures { λ r. ⌜ rowTerms r ≡ keptTerms d (bitsOf taken positions) (rowTerms row) ⌝ }
 {
     let count = row.count();
-    let mut out = Row::empty();
+    let terms = row.terms();
+    let mut out = terms;
+    let mut kept = 0;
     let mut i = 0;
     while i < count {
-        let t = row.term(i);
-        if !part_of_taken(d, flags, t) {
-            out = out.push(t);
+        let t = terms[i];
+        if !part_of_taken(d, taken, t) {
+            out[kept] = t;
+            kept += 1;
         }
         i += 1;
     }
-    out
+    Row::of(out, kept)
 }
 
 // The sign of an occurrence is that of its first term, which the row has.
@@ -72,67 +76,47 @@ fn new_term(row: Row, symbol: u16, d: Divisor, c: usize) -> Term
 }
 
 // Each taken pair of a row becomes one term: the new symbol, the co-divisor, the occurrence's sign. The new terms stand behind those that are kept.
-fn with_new_terms(row: Row, symbol: u16, d: Divisor, flags: [bool; POSITIONS], rest: Row) -> Row
-    requires { ⌜ (symbol < termSymbols) × (length (rowTerms rest ++ lookupTermsFrom symbol (signAt (rowTerms row)) d 0 flags) ≤ maxTerms) ⌝ }
-    ensures { λ r. ⌜ rowTerms r ≡ rowTerms rest ++ lookupTermsFrom symbol (signAt (rowTerms row)) d 0 flags ⌝ }
+fn with_new_terms(row: Row, symbol: u16, d: Divisor, taken: u16, rest: Row) -> Row
+    requires { ⌜ (symbol < termSymbols) × (length (rowTerms rest ++ lookupTermsFrom symbol (signAt (rowTerms row)) d 0 (bitsOf taken positions)) ≤ maxTerms) ⌝ }
+    ensures { λ r. ⌜ rowTerms r ≡ rowTerms rest ++ lookupTermsFrom symbol (signAt (rowTerms row)) d 0 (bitsOf taken positions) ⌝ }
 {
-    let mut out = rest;
+    let mut out = rest.terms();
+    let mut count = rest.count();
     let mut c = 0;
     while c < POSITIONS {
-        if flags[c] {
+        if bit_at(taken, c as u16) {
             let t = new_term(row, symbol, d, c);
-            out = out.push(t);
+            out[count] = t;
+            count += 1;
         }
         c += 1;
     }
-    out
+    Row::of(out, count)
 }
 
 // The new symbol is the largest, so the new terms stand last.
-fn row_after(symbol: u16, d: Divisor, flags: [bool; POSITIONS], row: Row) -> Row
-    requires { ⌜ (symbol < termSymbols) × Proper d × WellFormed positions symbol (rowTerms row) × (length (rowTerms row) ≤ maxTerms) × (flags ≡ takenFlags (signAt (rowTerms row)) d positions) ⌝ }
+fn row_after(symbol: u16, d: Divisor, taken: u16, row: Row) -> Row
+    requires { ⌜ (symbol < termSymbols) × Proper d × WellFormed positions symbol (rowTerms row) × (length (rowTerms row) ≤ maxTerms) × (bitsOf taken positions ≡ takenFlags (signAt (rowTerms row)) d positions) ⌝ }
     ensures { λ r. ⌜ rowTerms r ≡ rowAfter symbol d (rowTerms row) ⌝ }
 {
-    let rest = kept(d, flags, row);
-    with_new_terms(row, symbol, d, flags, rest)
+    let rest = kept_terms(d, taken, row);
+    with_new_terms(row, symbol, d, taken, rest)
 }
 
-// The rows go into fresh ones, one by one.
-fn rows_after(symbol: u16, d: Divisor, taken: [Taken; MAX_ROWS], rows: Rows) -> Rows
-    requires { ⌜ Ready symbol (rowsTerms rows) × (symbol < termSymbols) × Proper d × TakenIn d (rowsTerms rows) taken ⌝ }
+// A row in which nothing is taken stays as it is.
+pub fn rows_after(symbol: u16, d: Divisor, taken: [u16; MAX_ROWS], rows: Rows) -> Rows
+    requires { ⌜ Ready symbol (rowsTerms rows) × (symbol < termSymbols) × Proper d × TakenMasks d (rowsTerms rows) taken ⌝ }
     ensures { λ r. ⌜ rowsTerms r ≡ rowsAfter symbol d (rowsTerms rows) ⌝ }
 {
     let m = rows.m();
-    let mut out = Rows::empty();
+    let mut out = rows.all();
     let mut i = 0;
     while i < m {
-        let row = rows.row(i);
         let in_row = taken[i];
-        let flags = in_row.flags;
-        let after = row_after(symbol, d, flags, row);
-        out = out.with_row(after);
+        if in_row != 0 {
+            out[i] = row_after(symbol, d, in_row, out[i]);
+        }
         i += 1;
     }
-    out
-}
-
-// The rows state: the rows, and the symbol that the next divisor gets.
-pub struct RowsState {
-    pub rows: Rows,
-    pub symbol: u16,
-}
-
-impl RowsState {
-    // The step of a given divisor, where it is known what is taken of it in each row.
-    pub fn step(self, d: Divisor, taken: [Taken; MAX_ROWS]) -> RowsState
-        requires { ⌜ Ready (self .symbol) (rowsTerms (self .rows)) × (self .symbol < termSymbols) × Proper d × TakenIn d (rowsTerms (self .rows)) taken ⌝ }
-        ensures { λ r. ⌜ (rowsTerms (r .rows) ≡ rowsAfter (self .symbol) d (rowsTerms (self .rows))) × (r .symbol ≡ self .symbol + 1) ⌝ }
-    {
-        let symbol = self.symbol;
-        let rows = rows_after(symbol, d, taken, self.rows);
-        RowsState {
-            rows,
-            symbol: symbol + 1,
-        }
-    }
+    Rows::of(out, m)
 }

@@ -42,6 +42,10 @@ maxDigits = (positions + 1) / 2
 abbrev pub maxTerms : ℕ
 maxTerms = maxColumns * maxDigits
 
+-- the most pairs of terms in all rows
+abbrev pub maxPairs : ℕ
+maxPairs = maxRows * (maxTerms * (maxTerms - 1) / 2)
+
 -- "Divisors number at most 252": each takes the place of at least two operations
 abbrev pub maxDivisors : ℕ
 maxDivisors = maxOperations / 2

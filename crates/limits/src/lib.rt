@@ -26,6 +26,9 @@ pub const MAX_DIGITS: usize = (POSITIONS + 1) / 2;
 // The most terms of a row.
 pub const MAX_TERMS: usize = MAX_COLUMNS * MAX_DIGITS;
 
+// The most pairs of terms in all rows.
+pub const MAX_PAIRS: usize = MAX_ROWS * (MAX_TERMS * (MAX_TERMS - 1) / 2);
+
 // "Divisors number at most 252": each takes the place of at least two operations.
 pub const MAX_DIVISORS: usize = MAX_OPERATIONS / 2;
 

@@ -1,27 +1,28 @@
 -- `compile_chains::with_chain` meets its contract. Assumes nothing.
 use borrow.Author.Needs.{needs}
 use native.Mathlib.Omega.{arith}
-use Prim.Native.Nat.{_+_, _-_, _≤_, _<_}
-use mathlib.Core.Path.{_≡_, refl, ap, _∙_}
+use Prim.Native.Nat.{suc, _+_, _-_, _≤_, _<_}
+use mathlib.Core.Path.{_≡_, refl, ap, ap₂, _∙_}
 use mathlib.Core.List.{List, [], _∷_, _++_}
 use native.Mathlib.Numerals.{add-one}
-use lib.ListN.{length, getD, drop}
-use Rattle.limits.specs.Limits.{maxOperations, maxSymbols}
+use lib.ListN.{length, getD, take, drop, set, length-set}
+use Rattle.limits.specs.Limits.{maxOperations}
 use Rattle.layout_rules.specs.declared.Operation.{Operation}
 use Rattle.elimination_rows.specs.State.{rowTerms, noTerm}
+use Rattle.elimination_rows.proofs.Filled.{filled-more, front-same}
 use Rattle.compile_lists.specs.Lists.{operationsList}
 use Rattle.compile_rules.specs.Chains.{chainFrom}
-use Rattle.compile_chains.proofs.ChainLaws.{snoc-length, summed, chain-next, chain-end, chain-begins, chain-none}
+use Rattle.compile_chains.proofs.ChainLaws.{summed, chain-next, chain-end, chain-begins, chain-none}
 use Rattle.compile_chains.proofs.with_chain.Statement.{statement}
 use Rattle.compile_chains.proofs.with_chain.Tie as tie
 
 abbrev Inv-loop : tie.InvT-loop
-Inv-loop row n count turned out₀ symbol₀ shift₀ next₀ i₀ out symbol shift next i =
-    (i ≤ count) × (length (operationsList out) + (count - i) ≤ maxOperations) × (next + (count - i) ≤ maxSymbols)
-    × (operationsList out ++ chainFrom symbol shift turned next (drop i (rowTerms row)) ≡ operationsList out₀ ++ chainFrom symbol₀ shift₀ turned next₀ (drop 1 (rowTerms row)))
+Inv-loop row n count turned list₀ at₀ symbol₀ shift₀ i₀ list at symbol shift i =
+    (i ≤ count) × (at + (count - i) ≤ maxOperations) × (length list ≡ maxOperations)
+    × (take at list ++ chainFrom symbol shift turned (n + at) (drop i (rowTerms row)) ≡ take at₀ list₀ ++ chainFrom symbol₀ shift₀ turned (n + at₀) (drop 1 (rowTerms row)))
 
 abbrev μ-loop : tie.MeasureT-loop
-μ-loop row n count turned out₀ symbol₀ shift₀ next₀ i₀ out symbol shift next i = count - i
+μ-loop row n count turned list₀ at₀ symbol₀ shift₀ i₀ list at symbol shift i = count - i
 
 count-requires : tie.Need-count-requires Inv-loop μ-loop
 count-requires c κs = search needs
@@ -35,23 +36,26 @@ term-requires c κs = search needs
 negative-requires : tie.Need-negative-requires Inv-loop μ-loop
 negative-requires c κs = search needs
 
+list-requires : tie.Need-list-requires Inv-loop μ-loop
+list-requires c κs = search needs
+
+count-requires-2 : tie.Need-count-requires-2 Inv-loop μ-loop
+count-requires-2 c κs = search needs
+
 symbol-requires : tie.Need-symbol-requires Inv-loop μ-loop
 symbol-requires c κs = search needs
 
 exponent-requires : tie.Need-exponent-requires Inv-loop μ-loop
 exponent-requires c κs = search needs
 
-count-requires-2 : tie.Need-count-requires-2 Inv-loop μ-loop
-count-requires-2 c κs = search needs
-
-add-next : tie.Need-add-next Inv-loop μ-loop
-add-next c = omega arith
-
-cast-next : tie.Need-cast-next Inv-loop μ-loop
-cast-next c = omega arith
-
 loop-holds : tie.Need-loop-holds Inv-loop μ-loop
-loop-holds c = (omega arith, omega arith, omega arith, refl)
+loop-holds c = (omega arith, omega arith, search needs, refl)
+
+abbrev start-of : tie.At-loop Inv-loop μ-loop → tie.Start Inv-loop μ-loop
+start-of L = L .before .before .before .before .before .before .before .before .before
+
+inside : (c : tie.In-loop Inv-loop μ-loop) → c .before .loop .i < length (rowTerms (start-of (c .before) .args .row))
+inside c = omega (arith, c .before .before .before .before .before .before .before .before .before .count .ensures, c .loop-test .taken)
 
 term-requires-2 : tie.Need-term-requires-2 Inv-loop μ-loop
 term-requires-2 c κs = omega arith
@@ -59,11 +63,20 @@ term-requires-2 c κs = omega arith
 chain-operation-requires : tie.Need-chain-operation-requires Inv-loop μ-loop
 chain-operation-requires c κs = search needs
 
-push-requires : tie.Need-push-requires Inv-loop μ-loop
-push-requires c κs = omega arith
+array-set-from-list : tie.Need-array-set-from-list Inv-loop μ-loop
+array-set-from-list c = omega arith
 
-add-next-2 : tie.Need-add-next-2 Inv-loop μ-loop
-add-next-2 c = omega arith
+mul-list : tie.Need-mul-list Inv-loop μ-loop
+mul-list c = omega arith
+
+add-symbol : tie.Need-add-symbol Inv-loop μ-loop
+add-symbol c = omega arith
+
+cast-symbol : tie.Need-cast-symbol Inv-loop μ-loop
+cast-symbol c = omega arith
+
+add-at : tie.Need-add-at Inv-loop μ-loop
+add-at c = omega arith
 
 add-i : tie.Need-add-i Inv-loop μ-loop
 add-i c = omega arith
@@ -73,38 +86,47 @@ loop-less c = omega arith
 
 loop-again : tie.Need-loop-again Inv-loop μ-loop
 loop-again c =
-    let L = c .before .before .before .before in
-    let s = L .before .before .before .before .before .before .before .before in
+    let L = c .before .before .before in
+    let s = start-of L in
     let r = rowTerms (s .args .row) in
     let i = L .loop .i in
-    let turned = L .before .before .before .before .negative .result in
-    let out = operationsList (L .loop .out) in
-    let after = operationsList (c .push .result) in
-    let count = L .before .before .before .before .before .before .before .count .ensures in
-    let h : i < length r = omega (arith, count, c .before .before .before .loop-test .taken) in
-    let e : after ≡ out ++ (summed (L .loop .symbol) (L .loop .shift) turned (getD r i noTerm) ∷ []) =
-    c .push .ensures ∙ ap (λ (o : Operation). out ++ (o ∷ [])) (c .before .chain-operation .ensures ∙ ap (summed (L .loop .symbol) (L .loop .shift) turned) (c .before .before .term2 .ensures)) in
-    let l = snoc-length out after _ e in
-    rw (add-one i, add-one (L .loop .next)) (
+    let at = L .loop .at in
+    let turned = L .before .before .before .before .before .negative .result in
+    let list = L .loop .list in
+    let after = take (at + 1) (set list at (c .chain-operation .result)) in
+    let e : after ≡ take at list ++ (summed (L .loop .symbol) (L .loop .shift) turned (getD r i noTerm) ∷ []) =
+    filled-more list at maxOperations (L .loop .inv .2) (c .chain-operation .result) (omega arith)
+    ∙ ap (λ (o : Operation). take at list ++ (o ∷ [])) (c .chain-operation .ensures ∙ ap (summed (L .loop .symbol) (L .loop .shift) turned) (c .before .term2 .ensures)) in
+    let next : s .args .n + (at + 1) ≡ suc (s .args .n + at) = omega arith in (
       omega arith,
       omega arith,
-      omega arith,
-      chain-next turned r out i (L .loop .symbol) (L .loop .shift) (L .loop .next) after h e ∙ L .loop .inv .3,
+      length-set list at (c .chain-operation .result) ∙ L .loop .inv .2,
+      rw (add-one i, next) (chain-next turned r (take at list) i (L .loop .symbol) (L .loop .shift) (s .args .n + at) after (inside (c .before .before)) e) ∙ L .loop .inv .3,
     )
+
+of-requires : tie.Need-of-requires Inv-loop μ-loop
+of-requires c κs = omega arith
 
 returns-2 : tie.Need-returns-2 Inv-loop μ-loop
 returns-2 c =
-    let L = c .before in
-    let n = L .before in
-    let s = n .before .before .before .before .before .before .before in
+    let L = c .before .before in
+    let x = L .before in
+    let y = x .before in
+    let counted = y .before in
+    let listed = counted .before in
+    let g = listed .before in
+    let s = start-of L in
     let r = rowTerms (s .args .row) in
-    let turned = n .before .before .before .negative .result in
-    let t = n .before .before .before .before .term in
-    chain-end turned r (operationsList (L .loop .out)) (L .loop .i) (L .loop .symbol) (L .loop .shift) (L .loop .next) (omega arith)
+    let operations = operationsList (s .args .operations) in
+    let turned = g .negative .result in
+    let t = g .before .term in
+    c .of .ensures
+    ∙ chain-end turned r (take (L .loop .at) (L .loop .list)) (L .loop .i) (L .loop .symbol) (L .loop .shift) (s .args .n + L .loop .at) (omega arith)
     ∙ L .loop .inv .3
-    ∙ ap (λ (l : List Operation). operationsList (s .args .operations) ++ l)
-    (chain-begins _ _ (n .before .before .symbol .result) (n .before .exponent .result) turned (t .result) r (omega arith) (t .ensures)
-    (n .before .before .symbol .ensures) (n .before .exponent .ensures) (n .before .before .before .negative .ensures) (omega arith))
+    ∙ ap₂ (λ (out l : List Operation). out ++ l)
+    (front-same (listed .list .result) (counted .count2 .result) operations (counted .count2 .ensures) (listed .list .ensures))
+    (chain-begins _ _ (y .symbol .result) (x .exponent .result) turned (t .result) r (omega arith) (t .ensures)
+    (y .symbol .ensures) (x .exponent .ensures) (g .negative .ensures) (omega arith))
 
 pub with-chain-spec : {M : Type 1} → statement M
 with-chain-spec =
@@ -116,17 +138,20 @@ with-chain-spec =
     returns
     term-requires
     negative-requires
+    list-requires
+    count-requires-2
     symbol-requires
     exponent-requires
-    count-requires-2
-    add-next
-    cast-next
     loop-holds
     term-requires-2
     chain-operation-requires
-    push-requires
-    add-next-2
+    mul-list
+    array-set-from-list
+    add-symbol
+    cast-symbol
+    add-at
     add-i
     loop-less
     loop-again
+    of-requires
     returns-2)

@@ -12,12 +12,13 @@ use Rattle.layout_rules.proofs.MatrixRefusal.{AcceptedMatrix, accepted-matrix}
 use Rattle.elimination_rules.specs.Rows.{Row, matrixRows, plainCount}
 use Rattle.elimination_rules.specs.Elimination.{Eliminated, shallowestFirst, elimination}
 use Rattle.elimination_rows.specs.State.{rowsTerms, Ready}
+use Rattle.elimination_kept.proofs.TableLaws.{blank-length}
 use Rattle.compile_lists.specs.Lists.{operationsList}
 use Rattle.compile_rules.specs.Chains.{divisorOperation}
 use Rattle.compile_rules.specs.Compile.{eliminationOf}
 use Rattle.compile_plan.specs.Planned.{EliminatedOf}
 use Rattle.compile_rules.proofs.Compiled.{plain-most}
-use Rattle.compile_plan.proofs.PlanLaws.{ready, operations-sum, remaining-few, operations-of, outputs-of, elimination-is}
+use Rattle.compile_plan.proofs.PlanLaws.{enough-steps, ready, operations-sum, remaining-few, operations-of, outputs-of, elimination-is}
 use Rattle.compile_plan.proofs.plan.Statement.{statement}
 use Rattle.compile_plan.proofs.plan.Tie as tie
 
@@ -62,26 +63,44 @@ module _ (c : tie.After-matrix-rows) where
 plain-count-requires : tie.Need-plain-count-requires
 plain-count-requires c κs = few c
 
+blank-keys-requires : tie.Need-blank-keys-requires
+blank-keys-requires c κs = search needs
+
+blank-scores-requires : tie.Need-blank-scores-requires
+blank-scores-requires c κs = search needs
+
 cast-eliminate-rows : tie.Need-cast-eliminate-rows
-cast-eliminate-rows c = omega (arith, accepted (known (c .before)) .limits .columns-most)
+cast-eliminate-rows c = omega (arith, accepted (known (c .before .before .before)) .limits .columns-most)
 
 eliminate-rows-requires : tie.Need-eliminate-rows-requires
 eliminate-rows-requires c κs =
-    let g = c .before in
-    let k = known g in
-    (subst (λ (rs : List Row). Ready (columns (bytes k)) rs) (sym (first-is g)) (ready (bytes k) (all k) (k .before .pre)), accepted k .limits .columns-most, few g)
+    let scores = c .before .before in
+    let keys = scores .before in
+    let g = keys .before .before in
+    let k = known g in (
+      subst (λ (rs : List Row). Ready (columns (bytes k)) rs) (sym (first-is g)) (ready (bytes k) (all k) (k .before .pre)),
+      accepted k .limits .columns-most,
+      few g,
+      ap length (keys .blank-keys .ensures) ∙ blank-length,
+      ap length (scores .blank-scores .ensures) ∙ blank-length,
+    )
 
 -- elimination's end
 module _ (c : tie.After-eliminate-rows) where
+  abbrev counted : tie.After-plain-count
+  counted = c .before .before .before .before .before
+
   abbrev start : tie.After-shared-slice-known
-  start = known (c .before .before)
+  start = known (counted .before)
 
   abbrev end : Eliminated
   end = eliminationOf (bytes start)
 
   end-is : EliminatedOf end (c .eliminate-rows .result)
   end-is = subst (λ (e : Eliminated). EliminatedOf e (c .eliminate-rows .result))
-      (ap (elimination (shallowestFirst (columns (bytes start))) (columns (bytes start))) (first-is (c .before .before)) ∙ elimination-is (bytes start)) (c .eliminate-rows .ensures)
+      (enough-steps (columns (bytes start)) (rowsTerms (counted .before .matrix-rows .result)) (counted .plain-count .result) (counted .plain-count .ensures)
+      ∙ ap (elimination (shallowestFirst (columns (bytes start))) (columns (bytes start))) (first-is (counted .before))
+      ∙ elimination-is (bytes start)) (c .eliminate-rows .ensures .0)
 
   made : length (operationsList (c .eliminate-rows .result .operations)) ≡ length (end .divisors)
   made = ap length (end-is .operations) ∙ length-map (end .divisors) divisorOperation
@@ -121,7 +140,7 @@ returns c =
     record {
       operations = operations-of n (end g) (operationsList (g .eliminate-rows .result .operations)) _ (rowsTerms (g .eliminate-rows .result .rows)) (e .operations) (w .with-chains .ensures) (e .rows);
       outputs = outputs-of n (end g) _ _ (rowsTerms (g .eliminate-rows .result .rows)) (c .row-outputs .ensures) (ap (λ (x : ℕ). n + x) many) (e .rows);
-      plain = g .before .plain-count .ensures ∙ ap plainCount (first-is (g .before .before));
+      plain = counted g .plain-count .ensures ∙ ap plainCount (first-is (counted g .before));
       divisors = many;
       replacements = e .replacements;
     }
@@ -136,6 +155,8 @@ plan-spec =
     cast-n
     matrix-rows-requires
     plain-count-requires
+    blank-keys-requires
+    blank-scores-requires
     cast-eliminate-rows
     eliminate-rows-requires
     count-requires

@@ -2,13 +2,14 @@
 use borrow.Author.Needs.{needs}
 use native.Mathlib.Omega.{arith}
 use Prim.Native.Nat.{ℕ, _+_, _-_, _≤_, _<_, max}
-use mathlib.Core.Path.{_≡_, sym, ap, ap₂, subst, _∙_}
+use mathlib.Core.Path.{_≡_, sym, ap, ap₂, _∙_}
 use mathlib.Core.List.{List}
 use native.Mathlib.Numerals.{add-one}
 use lib.ListN.{length, getD, take}
-use lib.Seq.{take-all}
+use lib.Seq.{take-all, getD-take}
 use Rattle.limits.specs.Limits.{maxSymbols}
 use Rattle.layout_rules.specs.declared.Operation.{Operation}
+use Rattle.elimination_rows.proofs.Filled.{front-same}
 use Rattle.board_rules.specs.Machine.{depth, operationDepth}
 use Rattle.board_rules.specs.Table.{HoldsDepths}
 use Rattle.board_rules.proofs.DepthLaws.{depth-none}
@@ -21,54 +22,76 @@ use Rattle.compile_write.proofs.depth_of.Statement.{statement}
 use Rattle.compile_write.proofs.depth_of.Tie as tie
 
 abbrev Inv-loop : tie.InvT-loop
-Inv-loop operations n count table₀ largest₀ k₀ table largest k =
-    (k ≤ count) × HoldsDepths n (take k (operationsList operations)) table × (largest ≡ depth n (take k (operationsList operations)))
+Inv-loop n count list table₀ largest₀ k₀ table largest k =
+    (k ≤ count) × HoldsDepths n (take k (take count list)) table × (largest ≡ depth n (take k (take count list)))
 
 abbrev μ-loop : tie.MeasureT-loop
-μ-loop operations n count table₀ largest₀ k₀ table largest k = count - k
+μ-loop n count list table₀ largest₀ k₀ table largest k = count - k
 
 count-requires : tie.Need-count-requires Inv-loop μ-loop
 count-requires c κs = search needs
+
+list-requires : tie.Need-list-requires Inv-loop μ-loop
+list-requires c κs = search needs
 
 blank-depths-requires : tie.Need-blank-depths-requires Inv-loop μ-loop
 blank-depths-requires c κs = search needs
 
 loop-holds : tie.Need-loop-holds Inv-loop μ-loop
 loop-holds c =
-    let s = c .before .before in
+    let s = c .before .before .before in
     let n = s .args .n in
     (omega arith, depths-started n _ (omega (arith, s .pre .inputs)) (c .blank-depths .ensures), sym (depth-none n))
 
--- what is asked of the operations
-module _ (c : tie.In-loop Inv-loop μ-loop) where
+-- the operations at the front of the array
+module _ (L : tie.At-loop Inv-loop μ-loop) where
   abbrev s : tie.Start Inv-loop μ-loop
-  s = c .before .before .before .before
+  s = L .before .before .before .before
+
+  abbrev count : ℕ
+  count = L .before .before .before .count .result
+
+  abbrev list : List Operation
+  list = L .before .before .list .result
 
   abbrev os : List Operation
-  os = operationsList (s .args .operations)
+  os = take count list
 
-  writable : Writable compiledLimits (s .args .n) os
-  writable = s .pre
+  same : os ≡ operationsList (s .args .operations)
+  same = front-same list count (operationsList (s .args .operations)) (L .before .before .before .count .ensures) (L .before .before .list .ensures)
 
-  inside : c .before .loop .k < length os
-  inside = omega arith
+-- what is asked of the operations
+module _ (c : tie.In-loop Inv-loop μ-loop) where
+  writable : Writable compiledLimits (s (c .before) .args .n) (os (c .before))
+  writable = rw (same (c .before)) (s (c .before) .pre)
 
-  symbol-below : s .args .n + c .before .loop .k < maxSymbols
+  inside : c .before .loop .k < length (os (c .before))
+  inside = rw (same (c .before)) (omega arith)
+
+  symbol-below : s (c .before) .args .n + c .before .loop .k < maxSymbols
   symbol-below = omega (arith, inside, writable .few, writable .inputs)
 
-operation-requires : tie.Need-operation-requires Inv-loop μ-loop
-operation-requires c κs = inside (c .before)
+  own : getD (list (c .before)) (c .before .loop .k) noOperation ≡ getD (os (c .before)) (c .before .loop .k) noOperation
+  own = sym (getD-take (count (c .before)) (list (c .before)) (c .before .loop .k) noOperation (c .loop-test .taken))
+
+array-copy-out-operation-depth : tie.Need-array-copy-out-operation-depth Inv-loop μ-loop
+array-copy-out-operation-depth c = let g = c .before in omega (arith, inside g, writable g .few)
+
+mul-operation-depth : tie.Need-mul-operation-depth Inv-loop μ-loop
+mul-operation-depth c = let g = c .before in omega (arith, inside g, writable g .few)
 
 operation-depth-requires : tie.Need-operation-depth-requires Inv-loop μ-loop
 operation-depth-requires c κs =
     let g = c .before .before in
+    let L = g .before in
     let w = writable g in
-    let k = g .before .loop .k in
-    let n = s g .args .n in
-    let e = sym (c .operation .ensures) in
-    let first : c .operation .result .a < n + k = subst (λ (o : Operation). o .a < n + k) e (w .operation k (inside g) .first-earlier) in
-    let second : c .operation .result .b < n + k = subst (λ (o : Operation). o .b < n + k) e (w .operation k (inside g) .second-earlier) in
-    ((omega (arith, symbol-below g), omega (arith, symbol-below g)), rw (c .operation .ensures) (earlier-depths n (os g) w (g .before .loop .depths) k (inside g) (g .before .loop .inv .1)))
+    let k = L .loop .k in
+    let n = s L .args .n in
+    let o = w .operation k (inside g) in
+    rw (own g) (
+      (omega (arith, symbol-below g, o .first-earlier), omega (arith, symbol-below g, o .second-earlier)),
+      earlier-depths n (os L) w (L .loop .depths) k (inside g) (L .loop .inv .1),
+    )
 
 add-depths : tie.Need-add-depths Inv-loop μ-loop
 add-depths c = omega (arith, symbol-below (c .before .before .before))
@@ -91,25 +114,23 @@ loop-less c = let g = c .before .before .before .before in omega (arith, g .loop
 loop-again : tie.Need-loop-again Inv-loop μ-loop
 loop-again c =
     let d = c .before in
-    let o = d .before in
-    let g = o .before .before in
+    let g = d .before .before .before in
     let L = g .before in
-    let n = s g .args .n in
+    let n = s L .args .n in
     let k = L .loop .k in
     let table = L .loop .depths in
     let w = writable g in
-    let e : d .operation-depth .result ≡ operationDepth table (getD (os g) k noOperation) = d .operation-depth .ensures ∙ ap (operationDepth table) (o .operation .ensures) in
+    let e : d .operation-depth .result ≡ operationDepth table (getD (os L) k noOperation) = d .operation-depth .ensures ∙ ap (operationDepth table) (own g) in
     rw (add-one k) (
       omega (arith, g .loop-test .taken),
-      rw e (depths-next n (os g) w table k (inside g) (L .loop .inv .1)),
-      c .larger .ensures ∙ ap₂ max (L .loop .inv .2) e ∙ depth-next n (os g) w table k (inside g) (L .loop .inv .1),
+      rw e (depths-next n (os L) w table k (inside g) (L .loop .inv .1)),
+      c .larger .ensures ∙ ap₂ max (L .loop .inv .2) e ∙ depth-next n (os L) w table k (inside g) (L .loop .inv .1),
     )
 
 returns : tie.Need-returns Inv-loop μ-loop
 returns c =
     let L = c .before in
-    let s = L .before .before .before in
-    L .loop .inv .2 ∙ ap (depth (s .args .n)) (take-all (L .loop .k) (operationsList (s .args .operations)) (omega arith))
+    L .loop .inv .2 ∙ ap (depth (s L .args .n)) (take-all (L .loop .k) (os L) (rw (same L) (omega arith)) ∙ same L)
 
 pub depth-of-spec : {M : Type 1} → statement M
 depth-of-spec =
@@ -118,9 +139,11 @@ depth-of-spec =
     Inv-loop
     μ-loop
     count-requires
+    list-requires
     blank-depths-requires
     loop-holds
-    operation-requires
+    mul-operation-depth
+    array-copy-out-operation-depth
     operation-depth-requires
     add-depths
     mul-depths

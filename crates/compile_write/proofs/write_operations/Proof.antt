@@ -7,15 +7,16 @@ use mathlib.Core.List.{List, flatMap}
 use native.Mathlib.Numerals.{add-one}
 use lib.IntN.{ℤ}
 use lib.ListN.{length, getD, take, length-take, length-drop}
-use lib.Seq.{take-all}
+use lib.Seq.{take-all, getD-take}
 use Rattle.limits.specs.Limits.{sampleWidth, maxSymbols}
+use Rattle.elimination_rows.proofs.Filled.{front-same}
 use Rattle.layout_rules.specs.declared.Operation.{Operation}
 use Rattle.layout_rules.specs.Records.{headLength, operationLength, operationBytes}
 use Rattle.layout_rules.specs.Places.{operationPlace}
 use Rattle.layout_rules.specs.Written.{written}
 use Rattle.layout_rules.proofs.Lengths.{length-operation}
 use Rattle.layout_rules.proofs.Written.{records-none}
-use Rattle.board_rules.specs.Table.{HoldsForms, SmallForms, SmallRange, operationRow, formAppended}
+use Rattle.board_rules.specs.Table.{HoldsForms, formAppended}
 use Rattle.compile_lists.specs.Lists.{operationsList, noOperation}
 use Rattle.compile_rules.specs.Compile.{withWidths}
 use Rattle.compile_rules.specs.Compiled.{compiledLimits}
@@ -25,44 +26,64 @@ use Rattle.compile_write.proofs.write_operations.Statement.{statement}
 use Rattle.compile_write.proofs.write_operations.Tie as tie
 
 abbrev Inv-loop : tie.InvT-loop
-Inv-loop buffer₀ forms₀ operations n count k₀ buffer forms k =
-    (k ≤ count) × (length buffer ≡ length buffer₀) × HoldsForms n (take k (operationsList operations)) forms
-    × (written buffer (operationPlace headLength k) (flatMap operationBytes (recordedFrom n (operationsList operations) k))
-    ≡ written buffer₀ headLength (flatMap operationBytes (withWidths sampleWidth n (operationsList operations) n (operationsList operations))))
+Inv-loop buffer₀ forms₀ n count list k₀ buffer forms k =
+    (k ≤ count) × (length buffer ≡ length buffer₀) × HoldsForms n (take k (take count list)) forms
+    × (written buffer (operationPlace headLength k) (flatMap operationBytes (recordedFrom n (take count list) k))
+    ≡ written buffer₀ headLength (flatMap operationBytes (withWidths sampleWidth n (take count list) n (take count list))))
 
 abbrev μ-loop : tie.MeasureT-loop
-μ-loop buffer₀ forms₀ operations n count k₀ buffer forms k = count - k
+μ-loop buffer₀ forms₀ n count list k₀ buffer forms k = count - k
 
 count-requires : tie.Need-count-requires Inv-loop μ-loop
 count-requires c κs = search needs
 
+list-requires : tie.Need-list-requires Inv-loop μ-loop
+list-requires c κs = search needs
+
 loop-holds : tie.Need-loop-holds Inv-loop μ-loop
 loop-holds c =
-    let s = c .before .before in
+    let s = c .before .before .before in
     let n = s .args .n in
-    let os = operationsList (s .args .operations) in
+    let os = take (c .before .count .result) (c .list .result) in
     let first : n + 0 ≡ n = omega arith in
     (omega arith, refl, s .pre .0 .1, ap (λ (symbol : ℕ). written (s .args .buffer .now) headLength (flatMap operationBytes (withWidths sampleWidth n os symbol os))) first)
 
--- what is asked of the operations, and that the next one's record has room
-module _ (c : tie.In-loop Inv-loop μ-loop) where
+-- the operations at the front of the array
+module _ (L : tie.At-loop Inv-loop μ-loop) where
   abbrev s : tie.Start Inv-loop μ-loop
-  s = c .before .before .before .before
+  s = L .before .before .before .before
+
+  abbrev count : ℕ
+  count = L .before .before .count .result
+
+  abbrev list : List Operation
+  list = L .before .list .result
 
   abbrev os : List Operation
-  os = operationsList (s .args .operations)
+  os = take count list
 
-  writable : Writable compiledLimits (s .args .n) os
-  writable = s .pre .0 .0
+  same : os ≡ operationsList (s .args .operations)
+  same = front-same list count (operationsList (s .args .operations)) (L .before .before .count .ensures) (L .before .list .ensures)
 
-  inside : c .before .loop .k < length os
-  inside = omega arith
+-- what is asked of the operations, and that the next one's record has room
+module _ (c : tie.In-loop Inv-loop μ-loop) where
+  writable : Writable compiledLimits (s (c .before) .args .n) (os (c .before))
+  writable = rw (same (c .before)) (s (c .before) .pre .0 .0)
 
-  room : operationPlace headLength (length os) ≤ length (c .before .loop .buffer)
-  room = omega (arith, s .pre .1, c .before .loop .inv .1)
+  inside : c .before .loop .k < length (os (c .before))
+  inside = rw (same (c .before)) (omega arith)
 
-operation-requires : tie.Need-operation-requires Inv-loop μ-loop
-operation-requires c κs = inside c
+  room : operationPlace headLength (length (os (c .before))) ≤ length (c .before .loop .buffer)
+  room = rw (same (c .before)) (omega (arith, s (c .before) .pre .1, c .before .loop .inv .1))
+
+  own : getD (list (c .before)) (c .before .loop .k) noOperation ≡ getD (os (c .before)) (c .before .loop .k) noOperation
+  own = sym (getD-take (count (c .before)) (list (c .before)) (c .before .loop .k) noOperation (c .loop-test .taken))
+
+array-copy-out-o : tie.Need-array-copy-out-o Inv-loop μ-loop
+array-copy-out-o c = omega (arith, inside c, writable c .few)
+
+mul-o : tie.Need-mul-o Inv-loop μ-loop
+mul-o c = omega (arith, inside c, writable c .few)
 
 operation-place-requires : tie.Need-operation-place-requires Inv-loop μ-loop
 operation-place-requires c κs = omega (arith, inside (c .before), writable (c .before) .few)
@@ -83,20 +104,18 @@ write-operation-requires : tie.Need-write-operation-requires Inv-loop μ-loop
 write-operation-requires c κs =
     let g = c .before .before .before .before in
     let L = g .before in
-    let n = s g .args .n in
+    let n = s L .args .n in
     let k = L .loop .k in
     let w = writable g in
-    let e = sym (c .before .before .before .operation .ensures) in
+    let o = w .operation k (inside g) in
     let forms = L .loop .forms in
-    let symbol : n + k < maxSymbols = omega (arith, inside g, w .few, w .inputs) in (
+    let symbol : n + k < maxSymbols = omega (arith, inside g, w .few, w .inputs) in
+    rw (own g) (
       (symbol, w .inputs),
       (
-        (subst (λ (o : Operation). o .a < n + k) e (w .operation k (inside g) .first-earlier), subst (λ (o : Operation). o .b < n + k) e (w .operation k (inside g) .second-earlier)),
+        (o .first-earlier, o .second-earlier),
         (
-          (
-            subst (λ (o : Operation). SmallForms forms n o) e (small-forms n (os g) w forms k (inside g) (L .loop .inv .2)),
-            subst (λ (o : Operation). SmallRange sampleWidth (operationRow forms n o)) e (small-range n (os g) w forms k (inside g) (L .loop .inv .2)),
-          ),
+          (small-forms n (os L) w forms k (inside g) (L .loop .inv .2), small-range n (os L) w forms k (inside g) (L .loop .inv .2)),
           (L .loop .inv .2 .room, simp (length-take, length-drop) (omega (arith, inside g, room g, c .before .before .operation-place .ensures))),
         ),
       ),
@@ -112,21 +131,20 @@ loop-again : tie.Need-loop-again Inv-loop μ-loop
 loop-again c =
     let call = c .before .before in
     let p = call .before .before .before in
-    let o = p .before in
-    let g = o .before in
+    let g = p .before .before in
     let L = g .before in
-    let n = s g .args .n in
+    let n = s L .args .n in
     let k = L .loop .k in
     let w = writable g in
     let H = L .loop .inv .2 in
     let forms = L .loop .forms in
-    let e : call .write-operation .last .1 .0 ≡ formAppended forms n (getD (os g) k noOperation) (n + k) =
-    call .write-operation .ensures .0 ∙ ap (λ (q : Operation). formAppended forms n q (n + k)) (o .operation .ensures) in
-    let both = operation-written n (os g) w forms k (inside g) H (L .loop .buffer) (call .write-operation .last .0) (o .operation .result) (p .operation-place .result) (o .operation .ensures) (p .operation-place .ensures) (room g) (call .write-operation .ensures .1) in
+    let e : call .write-operation .last .1 .0 ≡ formAppended forms n (getD (os L) k noOperation) (n + k) =
+    call .write-operation .ensures .0 ∙ ap (λ (q : Operation). formAppended forms n q (n + k)) (own g) in
+    let both = operation-written n (os L) w forms k (inside g) H (L .loop .buffer) (call .write-operation .last .0) (getD (list L) k noOperation) (p .operation-place .result) (own g) (p .operation-place .ensures) (room g) (call .write-operation .ensures .1) in
     rw (add-one k) (
       omega (arith, g .loop-test .taken),
       both .0 ∙ L .loop .inv .1,
-      subst (λ (t : List ℤ). HoldsForms n (take (suc k) (os g)) t) (sym e) (holds-next n (os g) w forms k (inside g) H),
+      subst (λ (t : List ℤ). HoldsForms n (take (suc k) (os L)) t) (sym e) (holds-next n (os L) w forms k (inside g) H),
       both .1 ∙ L .loop .inv .3,
     )
 
@@ -136,12 +154,11 @@ same-length c = c .before .loop .inv .1
 returns : tie.Need-returns Inv-loop μ-loop
 returns c =
     let L = c .before in
-    let s = L .before .before .before in
-    let n = s .args .n in
-    let os = operationsList (s .args .operations) in
-    let all : length os ≤ L .loop .k = omega arith in (
-      subst (λ (ps : List Operation). HoldsForms n ps (L .loop .forms)) (take-all (L .loop .k) os all) (L .loop .inv .2),
-      records-none operationBytes operationLength length-operation (L .loop .buffer) (operationPlace headLength (L .loop .k)) (recordedFrom n os (L .loop .k)) (recorded-end n os (L .loop .k) all) ∙ L .loop .inv .3,
+    let n = s L .args .n in
+    let all : length (os L) ≤ L .loop .k = rw (same L) (omega arith) in
+    rw (sym (same L)) (
+      subst (λ (ps : List Operation). HoldsForms n ps (L .loop .forms)) (take-all (L .loop .k) (os L) all) (L .loop .inv .2),
+      records-none operationBytes operationLength length-operation (L .loop .buffer) (operationPlace headLength (L .loop .k)) (recordedFrom n (os L) (L .loop .k)) (recorded-end n (os L) (L .loop .k) all) ∙ L .loop .inv .3,
     )
 
 pub write-operations-spec : {M : Type 1} → statement M
@@ -151,8 +168,10 @@ write-operations-spec =
     Inv-loop
     μ-loop
     count-requires
+    list-requires
     loop-holds
-    operation-requires
+    mul-o
+    array-copy-out-o
     operation-place-requires
     sub-write-operation
     part-write-operation-start

@@ -1,7 +1,7 @@
 -- `elimination_order::key` meets its contract. Assumes nothing.
-use borrow.Author.Needs.{needs}
-use native.Mathlib.Omega.{arith}
 use Rattle.elimination_rules.proofs.Rank.{sign-room}
+use native.Mathlib.Omega.{arith}
+use borrow.Author.Needs.{needs}
 use Rattle.elimination_order.proofs.key.Statement.{statement}
 use Rattle.elimination_order.proofs.key.Tie as tie
 

@@ -1,10 +1,11 @@
 -- `elimination_step::part_as` meets its contract. Assumes nothing.
-use mathlib.Core.Path.{ap, _∙_}
-use mathlib.Core.Bool.{false}
+use mathlib.Core.Path.{ap, sym, _∙_}
 use Prim.Native.Nat.{ℕ, _-_}
 use native.Mathlib.Omega.{arith}
 use borrow.Author.Needs.{needs}
-use lib.ListN.{getD}
+use Rattle.limits.specs.Limits.{positions}
+use Rattle.bits.specs.Bits.{bitAt, bitsOf}
+use Rattle.bits.proofs.BitLaws.{bit-of-list}
 use Rattle.elimination_step.proofs.Stepping.{other-symbol, exponent-below, exponent-flag}
 use Rattle.elimination_step.proofs.part_as.Statement.{statement}
 use Rattle.elimination_step.proofs.part_as.Tie as tie
@@ -15,7 +16,7 @@ symbol-requires c κs = search needs
 returns : tie.Need-returns
 returns c =
     let a = c .before .before .args in
-    other-symbol (a .symbol) (a .exponent) (a .t3) (a .t) (omega arith)
+    other-symbol (a .symbol) (a .exponent) (bitsOf (a .taken) positions) (a .t) (omega arith)
 
 exponent-requires : tie.Need-exponent-requires
 exponent-requires c κs = search needs
@@ -23,19 +24,22 @@ exponent-requires c κs = search needs
 returns-2 : tie.Need-returns-2
 returns-2 c =
     let a = c .before .before .before .before .args in
-    exponent-below (a .symbol) (a .exponent) (a .t3) (a .t) (omega arith) (omega arith)
+    exponent-below (a .symbol) (a .exponent) (bitsOf (a .taken) positions) (a .t) (omega arith) (omega arith)
 
-cast-c : tie.Need-cast-c
-cast-c c = search needs
+cast-bit-at : tie.Need-cast-bit-at
+cast-bit-at c = search needs
 
-array-read-result : tie.Need-array-read-result
-array-read-result c = search needs
+bit-at-requires : tie.Need-bit-at-requires
+bit-at-requires c κs = search needs
 
 returns-3 : tie.Need-returns-3
 returns-3 c =
-    let a = c .before .before .before .before .args in
-    ap (λ (e : ℕ). getD (a .t3) (e - a .exponent) false) (c .before .exponent .ensures)
-    ∙ exponent-flag (a .symbol) (a .exponent) (a .t3) (a .t) (omega arith) (omega arith)
+    let s = c .before .before .before .before .before in
+    let a = s .args in
+    c .bit-at .ensures
+    ∙ ap (λ (e : ℕ). bitAt (a .taken) (e - a .exponent)) (c .before .before .exponent .ensures)
+    ∙ sym (bit-of-list (a .taken) positions (a .t .exponent - a .exponent) (omega (arith, s .pre)))
+    ∙ exponent-flag (a .symbol) (a .exponent) (bitsOf (a .taken) positions) (a .t) (omega arith) (omega arith)
 
 pub part-as-spec : {M : Type 1} → statement M
 part-as-spec =
@@ -45,6 +49,6 @@ part-as-spec =
     returns
     exponent-requires
     returns-2
-    cast-c
-    array-read-result
+    cast-bit-at
+    bit-at-requires
     returns-3)

@@ -1,21 +1,15 @@
 -- `elimination_rows::rows::Rows::row` meets its contract. Assumes nothing.
-use mathlib.Core.Path.{ap, sym, _∙_}
-use mathlib.Core.List.{[]}
 use Prim.Native.Nat.{_<_}
 use native.Mathlib.Omega.{arith}
-use lib.ListN.{length, take, length-map, List·getD-map}
+use lib.ListN.{length, take, length-map, length-take}
 use Rattle.limits.specs.Limits.{maxRows}
-use Rattle.elimination_rows.specs.declared.row.Row.{Row}
 use Rattle.elimination_rows.specs.State.{rowTerms, rowsTerms}
-use Rattle.elimination_rows.proofs.Filled.{within, filled-at}
+use Rattle.elimination_rows.proofs.Filled.{within}
+use Rattle.elimination_rows.proofs.InArray.{first-row-at}
 use Rattle.elimination_rows.proofs.rows.Rows.row.Statement.{statement}
 use Rattle.elimination_rows.proofs.rows.Rows.row.Tie as tie
 use Rattle.elimination_rows.proofs.rows.Rows.row.Reads as reads
 use Rattle.elimination_rows.proofs.rows.Rows.row.Lts as lts
-
--- what stands past the last row
-abbrev noRow : Row
-noRow = record { terms = []; count = 0 }
 
 below : (c : lts.Start reads.Pre reads.Post) → c .args .i < length (take (c .args .t1 .m) (c .args .t1 .rows))
 unfolding rowsTerms
@@ -31,12 +25,11 @@ element-copy-out-result : tie.Need-element-copy-out-result
 element-copy-out-result c = inside c
 
 returns : tie.Need-returns
-unfolding rowsTerms rowTerms
+unfolding rowsTerms
 returns c =
     let s = c .before in
     let rows = s .args .t1 in
-    ap rowTerms (filled-at (rows .rows) (rows .m) maxRows (simp length-map at (s .good .0 .1 .1 .0 .1 .0 .1)) (s .args .i) noRow (below s))
-    ∙ sym (List·getD-map rowTerms (take (rows .m) (rows .rows)) (s .args .i) noRow)
+    first-row-at (rows .rows) (rows .m) (s .args .i) (omega (arith, below s, length-take (rows .m) (rows .rows)))
 
 pub row-spec : {M : Type 1} → statement M
 row-spec = tie.close (tie.spec mul-result element-copy-out-result returns)

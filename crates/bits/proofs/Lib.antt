@@ -1,0 +1,2 @@
+-- Laws of the bits of a number.
+pub mod BitLaws

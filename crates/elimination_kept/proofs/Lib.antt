@@ -1,0 +1,3 @@
+pub mod TableLaws
+pub mod Picking
+pub mod Refreshing

@@ -1,0 +1,9 @@
+pub mod CountedAnew
+pub mod Table
+pub mod TablePick
+pub mod Few
+pub mod NewPairs
+pub mod First
+pub mod Gained
+pub mod Refreshed
+pub mod Next
