@@ -1,6 +1,7 @@
 //! What is measured: five calls of both sides, on spread random banks; generate on seeds of its own.
 
 use cases::{bank, Random};
+use reference::literal::Elimination;
 
 /// The bytes that suffice for every netlist.
 pub const NETLIST_ROOM: usize = 6136;
@@ -90,6 +91,12 @@ impl Input {
             outputs: vec![0; m],
             operations: usize::from(compiled.operations),
         }
+    }
+
+    /// How many occurrences elimination touches: those of the matrix's rows, and those that its steps take away or make.
+    pub fn touched(&self) -> usize {
+        let elimination = Elimination::of_record(&self.matrix);
+        elimination.expect("a right record").touched()
     }
 
     /// Makes one call.

@@ -2,6 +2,7 @@
 
 mod burn_in;
 mod machine;
+mod occurrences;
 mod programs;
 mod tables;
 mod text;
@@ -43,6 +44,8 @@ pub struct Growth {
     operations: f64,
     /// Of compile: verified, independent.
     instructions: [f64; 2],
+    /// Occurrences that elimination touches, on the same banks as instructions.
+    touched: f64,
     compile: Times,
     read: Times,
 }
@@ -55,6 +58,7 @@ impl Growth {
             bits,
             operations: banks.operations(),
             instructions: SIDES.map(count),
+            touched: occurrences::touched(size, bits),
             compile: banks.times(Call::Compile),
             read: banks.times(Call::Read),
         }
@@ -88,6 +92,7 @@ fn main() {
     tables::growth(&mut text, "coefficient size", &bits, |g| {
         format!("{} bits", g.bits)
     });
+    tables::touched(&mut text, &sizes);
     tables::burn_in(&mut text, &burn_in);
     tables::memory(&mut text, &memory);
     tables::absolute(&mut text, &calls, &instructions, &machine);

@@ -7,7 +7,7 @@ use std::process::Command;
 use bench::{Call, Side, CALLS, SIDES};
 
 /// How many banks callgrind counts.
-const COUNTED: f64 = 6.0;
+pub const COUNTED: usize = 6;
 
 /// Figures for each call and side.
 pub struct Figures<T>(HashMap<(&'static str, &'static str), T>);
@@ -46,7 +46,7 @@ pub fn instructions(folder: &Path, call: Call, side: Side, size: usize, bits: u3
     let line = printed.lines().find(|line| line.contains("Collected :"));
     let count = line.and_then(|line| line.split_whitespace().last());
     let count: f64 = count.and_then(|word| word.parse().ok()).expect("a count");
-    count / COUNTED
+    count / COUNTED as f64
 }
 
 /// Peak bytes of one call.

@@ -63,6 +63,29 @@ pub fn growth(text: &mut String, what: &str, rows: &[&Growth], label: impl Fn(&G
     text.push('\n');
 }
 
+pub fn touched(text: &mut String, rows: &[&Growth]) {
+    text.push_str("## Growth with the occurrences touched\n\n");
+    text.push_str("The verified compile; means over the banks that callgrind counts.\n\n");
+    let columns = [
+        "m by n",
+        "Occurrences touched",
+        "Instructions",
+        "Instructions for each occurrence",
+    ];
+    header(text, &columns);
+    for growth in rows {
+        let instructions = growth.instructions[0];
+        let cells = [
+            format!("{0} by {0}", growth.size),
+            thousands(growth.touched),
+            thousands(instructions),
+            thousands(instructions / growth.touched),
+        ];
+        row(text, &cells);
+    }
+    text.push('\n');
+}
+
 pub fn burn_in(text: &mut String, runs: &[(&str, [f64; 2])]) {
     text.push_str("## Burn-in\n\n1,000 banks, each generated, compiled and checked.\n\n");
     header(text, &["Seeds", "Ratio", "Verified", "Independent"]);

@@ -9,7 +9,7 @@ const ARCHITECTURE: &str = include_str!("../../docs/ARCHITECTURE.md");
 const CRATES: &str = include_str!("../../crates.txt");
 
 /// The definitions that contracts of public functions, and the theorems of docs/CLAIM.md, cite, by the list in which they stand first.
-const PROMISES: [(&str, &[&str]); 4] = [
+const PROMISES: [(&str, &[&str]); 5] = [
     (
         "calls",
         &[
@@ -38,6 +38,7 @@ const PROMISES: [(&str, &[&str]); 4] = [
             "generator/Tests",
         ],
     ),
+    ("kept", &["kept_rules/Kept"]),
     (
         "programs",
         &[

@@ -12,7 +12,7 @@ use crate::matrix::{Matrix, MOST};
 
 /// (a shifted by ea) plus or minus (b shifted by eb). The order of the fields is the order among equal scores and depths.
 #[derive(Clone, Copy, Debug, PartialEq, Eq, PartialOrd, Ord)]
-pub(crate) struct Divisor {
+pub struct Divisor {
     pub a: u16,
     pub b: u16,
     pub ea: u8,

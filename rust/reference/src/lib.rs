@@ -3,7 +3,7 @@
 //! It is the other side of every comparison with the verified library: tests hold the two answers against each other, and
 //! the benchmark takes it as its base. The calls have the shape of the verified library's wrappers, and a buffer that
 //! a call is lent changes only where the call is accepted. `compile_without_depth`, which the library does not have, says
-//! what netlists were before request A2.
+//! what netlists were before request A2, and `literal` goes through elimination state by state.
 
 mod board;
 mod check;
@@ -11,6 +11,7 @@ mod compile;
 mod digits;
 mod elimination;
 mod generator;
+pub mod literal;
 mod matrix;
 mod read;
 mod record;
@@ -18,11 +19,9 @@ mod refusal;
 mod run;
 mod width;
 
-#[cfg(test)]
-mod literal;
-
 pub use check::check;
 pub use compile::{compile, compile_without_depth, Compiled};
+pub use elimination::Divisor;
 pub use generator::generate;
 pub use read::{read, Netlist};
 pub use record::{step, Record};

@@ -14,6 +14,7 @@ mod matrices;
 mod mersenne_twister;
 mod netlists;
 mod run;
+mod scores;
 
 use std::path::{Path, PathBuf};
 use std::{env, fs};
@@ -22,9 +23,10 @@ use case::Case;
 use matrices::{netlist, three_minus_three, MATRIX_ROOM};
 
 /// The programs by name.
-fn programs() -> [(&'static str, Case); 6] {
+fn programs() -> [(&'static str, Case); 7] {
     [
         ("test_calls", test_calls()),
+        ("test_scores", scores::test_scores()),
         ("run_bank", run_bank()),
         ("compile_bank", compile_bank()),
         ("check_bank", check_bank()),
