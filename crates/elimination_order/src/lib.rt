@@ -1,4 +1,5 @@
-// Document 01, "Elimination": a divisor as one number, its key, and its place in the order among equal scores. Rests on `elimination_rules`.
+// Document 01, "Elimination": the divisor of two terms, its key, which is one number, and its place in the order among equal scores. Rests on
+// `term` and `elimination_rules`.
 use elimination_rules::Divisor;
 use limits::MAX_SYMBOLS;
 use term::Term;

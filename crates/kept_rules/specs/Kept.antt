@@ -40,8 +40,10 @@ unfoldable pub bestEntry : (Divisor → Divisor → Bool) → Scored → List Sc
 bestEntry first s [] = s
 bestEntry first s (t ∷ table) = elim (better first t s) [ true ↦ bestEntry first t table | false ↦ bestEntry first s table ]
 
--- ---- which divisors a step counts anew: those that lost or gained an occurrence. A divisor has at most one for each row and co-divisor, so
--- it is told by its co-divisors, in terms of signs, which speak of divisors as the divisor of two terms is (`Proper`).
+-- ---- which divisors a step counts anew: those that lost or gained an occurrence
+
+-- A divisor has at most one occurrence for each row and co-divisor, so it is enough to say where it occurs. Said by signs, as here, this is
+-- so of divisors whose terms are in order (`Proper`), as those of two terms are.
 
 -- what each row says of each symbol and exponent
 abbrev pub signsIn : List Row → ℕ → Signs
