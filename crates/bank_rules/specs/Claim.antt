@@ -113,7 +113,7 @@ pub record Claim (matrixBytes buffer : List ℕ) (samples outputs : List ℤ) (a
       → List·Memᴰ p (occurrences d (getD (elimination .remainingRows) i [])) → List·Memᴰ q (occurrences d (getD (elimination .remainingRows) j []))
       → Overlap i p j q
   -- "Divisors and remaining rows are here those of which document 01 makes the very operations written": one per divisor, then per
-  -- remaining row its chain, each with its width; and the outputs
+  -- remaining row its joins, each with its width; and the outputs
   pub very-operations :
       let os = operationsOf (columns matrixBytes) elimination in
       netlist .operations ≡ withWidths sampleWidth (columns matrixBytes) os (columns matrixBytes) os

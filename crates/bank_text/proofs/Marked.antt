@@ -7,7 +7,8 @@ use Rattle.elimination_rules.specs.Elimination.{matrixElimination}
 use Rattle.layout_rules.specs.Matrix.{matrixRefusal, matrix, rowsFrom, coefficientsFrom, coefficientAt, signedWord}
 use Rattle.board_rules.specs.Machine.{entryForm, outputForm, depth}
 use Rattle.board_rules.specs.Width.{width}
-use Rattle.compile_rules.specs.Chains.{signField, chainFrom, chain, chains, rowOutput, rowOutputs}
+use Rattle.sum_rules.specs.Joins.{signField}
+use Rattle.sum_rules.specs.Shallowest.{sumOperations, sumOutputs}
 use Rattle.compile_rules.specs.Compile.{operationsOf, outputsOf, withWidths, netlistOf}
 use Rattle.compile_rules.proofs.Marked.{marked-banks}
 use Rattle.text.specs.Decimal.{decimal, number}
@@ -17,5 +18,5 @@ use Rattle.bank_text.specs.BankText.{bankText}
 use Rattle.bank_text.specs.Marked.{MarkedTable}
 
 pub marked-table : MarkedTable
-unfolding xor matrixRows plainCount matrixElimination matrixRefusal matrix rowsFrom coefficientsFrom coefficientAt signedWord entryForm outputForm depth width signField chainFrom chain chains rowOutput rowOutputs operationsOf outputsOf withWidths netlistOf decimal number countsLine operationLine valueText lines bankText
+unfolding xor matrixRows plainCount matrixElimination matrixRefusal matrix rowsFrom coefficientsFrom coefficientAt signedWord entryForm outputForm depth width signField sumOperations sumOutputs operationsOf outputsOf withWidths netlistOf decimal number countsLine operationLine valueText lines bankText
 marked-table = record { banks = marked-banks; lines = marked; printed = refl; printed-refusal = refl }

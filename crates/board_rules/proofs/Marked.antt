@@ -7,7 +7,7 @@ use lib.ListN.{replicate}
 use Rattle.limits.specs.Limits.{sampleWidth}
 use Rattle.board_rules.specs.Machine.{entryForm, outputForm}
 use Rattle.board_rules.specs.Width.{width}
-use Rattle.board_rules.specs.Marked.{MarkedWidths, sumOfTwo, negatedSample, chainOfEight, negatedChain}
+use Rattle.board_rules.specs.Marked.{MarkedWidths, sumOfTwo, negatedSample, sumOfEight, negatedSum}
 use Rattle.board_rules.proofs.WidthLaws.{entry-width-is, output-width-is}
 
 -- the coefficients
@@ -19,7 +19,7 @@ negated-form : outputForm 1 [] negatedSample ≡ (negsuc 0 ∷ [])
 unfolding outputForm
 negated-form = refl
 
-eight-form : outputForm 8 chainOfEight negatedChain ≡ replicate 8 (negsuc 32767)
+eight-form : outputForm 8 sumOfEight negatedSum ≡ replicate 8 (negsuc 32767)
 unfolding outputForm
 eight-form = refl
 
@@ -43,5 +43,5 @@ marked-widths = record {
   eight = eight-width;
   sum-is = rw (sum-form, sum-width) at (entry-width-is sampleWidth 2 sumOfTwo 2);
   negated-is = rw (negated-form, negated-width) at (output-width-is sampleWidth 1 [] negatedSample);
-  eight-is = rw (eight-form, eight-width) at (output-width-is sampleWidth 8 chainOfEight negatedChain);
+  eight-is = rw (eight-form, eight-width) at (output-width-is sampleWidth 8 sumOfEight negatedSum);
 }

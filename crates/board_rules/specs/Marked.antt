@@ -23,20 +23,20 @@ sumOfTwo = added 0 0 1 0 17 ∷ []
 abbrev pub negatedSample : Output
 negatedSample = record { sign = 1; symbol = 0; shift = 0; width = 17 }
 
--- a row of eight coefficients −32,768: the chain sums eight times 32,768, and the output is minus
-abbrev pub chainOfEight : List Operation
-chainOfEight =
+-- a row of eight coefficients −32,768: eight times 32,768 is summed, and the output is minus
+abbrev pub sumOfEight : List Operation
+sumOfEight =
     added 0 15 1 15 32
-    ∷ added 8 0 2 15 33
-    ∷ added 9 0 3 15 33
-    ∷ added 10 0 4 15 34
-    ∷ added 11 0 5 15 34
-    ∷ added 12 0 6 15 34
-    ∷ added 13 0 7 15 34
+    ∷ added 2 15 3 15 32
+    ∷ added 4 15 5 15 32
+    ∷ added 6 15 7 15 32
+    ∷ added 8 0 9 0 33
+    ∷ added 10 0 11 0 33
+    ∷ added 12 0 13 0 34
     ∷ []
 
-abbrev pub negatedChain : Output
-negatedChain = record { sign = 1; symbol = 14; shift = 0; width = 35 }
+abbrev pub negatedSum : Output
+negatedSum = record { sign = 1; symbol = 14; shift = 0; width = 35 }
 
 -- "width of x0 + x1 is 17, of −x0 17, of eight times −32,768 summed 35": as worked out from the coefficients, and as defined, over all
 -- samples, of what the board machine computes
@@ -46,4 +46,4 @@ pub record MarkedWidths : Type 0 where
   pub eight : width sampleWidth (replicate 8 (negsuc 32767)) ≡ 35
   pub sum-is : IsWidth sampleWidth 2 (λ xs. entryAt (machine xs sumOfTwo) 2) 17
   pub negated-is : IsWidth sampleWidth 1 (λ xs. outputValue (machine xs []) negatedSample) 17
-  pub eight-is : IsWidth sampleWidth 8 (λ xs. outputValue (machine xs chainOfEight) negatedChain) 35
+  pub eight-is : IsWidth sampleWidth 8 (λ xs. outputValue (machine xs sumOfEight) negatedSum) 35

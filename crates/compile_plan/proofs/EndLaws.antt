@@ -23,7 +23,7 @@ use Rattle.layout_rules.specs.declared.Operation.{Operation}
 use Rattle.board_rules.specs.Machine.{operationDepth, depths}
 use Rattle.board_rules.specs.Table.{filled, HoldsDepths}
 use Rattle.board_rules.proofs.TableLaws.{depths-started, depth-at, operands-fit, depths-appended}
-use Rattle.compile_rules.specs.Chains.{divisorOperation}
+use Rattle.sum_rules.specs.Joins.{divisorOperation}
 use Rattle.compile_rules.proofs.Depths.{symbol-depths}
 
 -- what was done and what was left to do, together

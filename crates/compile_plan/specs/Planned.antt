@@ -12,12 +12,14 @@ use Rattle.layout_rules.specs.Matrix.{matrix, columns}
 use Rattle.compile_plan.specs.declared.eliminated.Eliminated.{Eliminated}
 use Rattle.compile_plan.specs.declared.Planned.{Planned}
 use Rattle.compile_lists.specs.Lists.{operationsList, outputsList}
-use Rattle.compile_rules.specs.Chains.{divisorOperation}
+use Rattle.board_rules.specs.Table.{HoldsDepths}
+use Rattle.sum_rules.specs.Joins.{divisorOperation}
 use Rattle.compile_rules.specs.Compile.{operationsOf, outputsOf, eliminationOf}
 
--- elimination's end by value: one operation per divisor, the pairs replaced, the remaining rows
-pub record EliminatedOf (e : rules.Eliminated) (r : Eliminated) : Type 0 where
+-- elimination's end by value: one operation per divisor, the depths of n inputs and these, the pairs replaced, the remaining rows
+pub record EliminatedOf (n : ℕ) (e : rules.Eliminated) (r : Eliminated) : Type 0 where
   pub operations : operationsList (r .operations) ≡ map divisorOperation (e .divisors)
+  pub depths : HoldsDepths n (operationsList (r .operations)) (r .depths)
   pub replacements : r .replacements ≡ e .replacements
   pub rows : rowsTerms (r .rows) ≡ e .remainingRows
 

@@ -1,6 +1,6 @@
 // Document 01, "Elimination", with kept scores as request A3 has them. Rests on `elimination_state`, `elimination_kept`, `board_tables` and
-// `compile_chains`.
-use compile_chains::divisor_operation;
+// `compile_joins`.
+use compile_joins::divisor_operation;
 use compile_lists::operations::Operations;
 use elimination_columns::blank_columns;
 use elimination_kept::pick::pick;
@@ -8,6 +8,7 @@ use elimination_order::divisor_of_key;
 use elimination_rows::rows::Rows;
 use elimination_state::RowsState;
 use limits::MAX_PAIRS;
+use limits::MAX_SYMBOLS;
 ghost use mathlib.Core.Path.{_≡_};
 ghost use mathlib.Core.List.{[]};
 ghost use Prim.Native.Nat.{_≤_};
@@ -20,9 +21,11 @@ ghost use Rattle.kept_rules.specs.Kept.{Kept};
 ghost use Rattle.elimination_kept.specs.Table.{tableOf, Room};
 ghost use Rattle.compile_plan.specs.Planned.{EliminatedOf};
 
-// One operation per divisor, the number of pairs replaced, the remaining rows, and how many entries their table of scores has.
+// One operation per divisor, the depths of the inputs and of these, the number of pairs replaced, the remaining rows, and how many entries
+// their table of scores has.
 pub struct Eliminated {
     pub operations: Operations,
+    pub depths: [u16; MAX_SYMBOLS],
     pub replacements: usize,
     pub rows: Rows,
     pub kept: usize,
@@ -38,7 +41,7 @@ pub fn eliminate_rows(
     scores: &mut [u8; MAX_PAIRS],
 ) -> Eliminated
     requires { ⌜ Ready n (rowsTerms rows) × (n ≤ maxColumns) × (plainCount (rowsTerms rows) ≤ maxOperations) × (length (now keys) ≡ maxPairs) × (length (now scores) ≡ maxPairs) ⌝ }
-    ensures { λ r. ⌜ EliminatedOf (eliminate (shallowestFirst n) most n [] (rowsTerms rows)) r ⌝ }
+    ensures { λ r. ⌜ EliminatedOf n (eliminate (shallowestFirst n) most n [] (rowsTerms rows)) r ⌝ }
     ensures { λ r. ⌜ Kept (rowsTerms (r .rows)) (tableOf (now (keys .exit)) (now (scores .exit)) (r .kept)) ⌝ }
     ensures { λ r. ⌜ Room (now (keys .exit)) (now (scores .exit)) (r .kept) ⌝ }
 {
@@ -66,6 +69,7 @@ pub fn eliminate_rows(
     let remaining = state.rows;
     Eliminated {
         operations: Operations::of(operations, steps),
+        depths,
         replacements,
         rows: remaining,
         kept: state.kept,

@@ -1,5 +1,5 @@
 // Document 01, "Elimination" and "Netlist and board machine": the operations and outputs of a matrix record, without widths, and what
-// compile counts. Rests on `elimination_state`, `compile_chains` and `layout_matrix`.
+// compile counts. Rests on `elimination_state`, `compile_sums` and `layout_matrix`.
 pub mod rows; // rows.rt: the rows of a matrix record
 pub mod eliminated; // eliminated.rt: elimination
 
@@ -25,20 +25,22 @@ pub fn plan(matrix: &[u8]) -> Planned
     let m = matrix[4] as usize;
     let n = matrix[5] as usize;
     let first = rows::matrix_rows(matrix, m, n);
-    let plain = compile_chains::plain_count(first);
+    let plain = compile_sums::plain_count(first);
     let mut keys = elimination_kept::blank_keys();
     let mut scores = elimination_kept::blank_scores();
     let end = eliminated::eliminate_rows(first, n as u16, plain, &mut keys, &mut scores);
     let made = end.operations;
+    let divisors = made.count();
     let remaining = end.rows;
-    let count = made.count();
-    let operations = compile_chains::with_chains(made, remaining, n);
-    let outputs = compile_chains::row_outputs(remaining, (n + count) as u16);
+    let mut depths = end.depths;
+    let joined = compile_sums::sum_rows(made, remaining, n, &mut depths);
+    let operations = joined.operations;
+    let outputs = joined.outputs;
     Planned {
         operations,
         outputs,
         plain,
-        divisors: count,
+        divisors,
         replacements: end.replacements,
     }
 }

@@ -15,10 +15,10 @@ use Rattle.elimination_rules.specs.Elimination.{Eliminated}
 use Rattle.elimination_rules.specs.Steps.{Steps, end, step}
 use Rattle.elimination_rules.proofs.Order.{length-rows-after}
 use Rattle.elimination_rules.proofs.Counts.{steps-operations, steps-twice}
-use Rattle.compile_rules.specs.Chains.{divisorOperation, chains}
-use Rattle.compile_rules.specs.Compile.{operationsOf, outputsOf, withWidths, outputWithWidth, netlistOf}
-use Rattle.compile_rules.proofs.Sums.{summed-rows-length, summed-rows-outputs}
-use Rattle.compile_rules.proofs.Chains.{remaining-summed}
+use Rattle.sum_rules.specs.Joins.{divisorOperation}
+use Rattle.compile_rules.specs.Compile.{rowOperations, operationsOf, outputsOf, withWidths, outputWithWidth, netlistOf}
+use Rattle.sum_rules.proofs.Sums.{summed-rows-length, summed-rows-outputs}
+use Rattle.compile_rules.proofs.Remaining.{remaining-summed}
 
 -- e is what some sequence of steps from the rows gives, with the inputs as the symbols below n
 abbrev pub Stepped : ℕ → List Row → Eliminated → Type 0
@@ -31,7 +31,7 @@ unfolding operationsOf
 length-operations n e =
     let ds : List Operation = map divisorOperation (e .divisors) in
     let next : ℕ = n + length (e .divisors) in
-    omega (arith, length-append ds (chains next (e .remainingRows)), length-map (e .divisors) divisorOperation, summed-rows-length (remaining-summed n e))
+    omega (arith, length-append ds (rowOperations n e), length-map (e .divisors) divisorOperation, summed-rows-length (remaining-summed n e))
 
 -- operations = plain + divisors − replacements
 pub operations-count : (n : ℕ) (rows : List Row) (e : Eliminated) → Stepped n rows e

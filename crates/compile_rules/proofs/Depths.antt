@@ -11,8 +11,8 @@ use Rattle.elimination_rules.specs.Elimination.{divisorDepth, symbolDepthsFrom,
 use Rattle.layout_rules.specs.declared.Operation.{Operation}
 use Rattle.board_rules.specs.Machine.{operationDepth, depths}
 use Rattle.board_rules.proofs.DepthLaws.{depths-append, depths-snoc, depths-keep, length-depths}
-use Rattle.compile_rules.specs.Chains.{divisorOperation, chains}
-use Rattle.compile_rules.specs.Compile.{operationsOf}
+use Rattle.sum_rules.specs.Joins.{divisorOperation}
+use Rattle.compile_rules.specs.Compile.{rowOperations, operationsOf}
 
 depths-from : (ds : List ℕ) (made : List Divisor) → symbolDepthsFrom ds made ≡ depths ds (map divisorOperation made)
 unfolding symbolDepthsFrom depths
@@ -34,12 +34,12 @@ unfolding operationsOf
 netlist-depth n e made d more h =
     let before : List Operation = map divisorOperation made in
     let o : Operation = divisorOperation d in
-    let rest : List Operation = map divisorOperation more ++ chains (n + length (e .divisors)) (e .remainingRows) in
+    let rest : List Operation = map divisorOperation more ++ rowOperations n e in
     let start : List ℕ = replicate n 0 in
     let long : length (depths start before) ≡ n + length made = omega (arith, length-depths start before, length-replicate n zero, length-map made divisorOperation) in
     let parts : operationsOf n e ≡ (before ++ (o ∷ [])) ++ rest =
-    ap (λ (l : List Operation). l ++ chains (n + length (e .divisors)) (e .remainingRows)) (ap (map divisorOperation) h ∙ map-append divisorOperation made (d ∷ more))
-    ∙ append-assoc before (o ∷ map divisorOperation more) (chains (n + length (e .divisors)) (e .remainingRows))
+    ap (λ (l : List Operation). l ++ rowOperations n e) (ap (map divisorOperation) h ∙ map-append divisorOperation made (d ∷ more))
+    ∙ append-assoc before (o ∷ map divisorOperation more) (rowOperations n e)
     ∙ sym (append-assoc before (o ∷ []) rest) in
     ap (λ (l : List Operation). getD (depths start l) (n + length made) 0) parts
     ∙ ap (λ (l : List ℕ). getD l (n + length made) 0) (depths-append start (before ++ (o ∷ [])) rest)

@@ -1,7 +1,6 @@
 -- Laws of the netlist of a matrix, lowest first.
 pub mod Limits
-pub mod Sums
-pub mod Chains
+pub mod Remaining
 pub mod Depths
 pub mod Counts
 pub mod Operands
@@ -11,5 +10,6 @@ pub mod Netlist
 pub mod Weights
 pub mod Narrow
 pub mod Compiled
+pub mod NetlistDepth
 pub mod CompileTests
 pub mod Marked

@@ -12,12 +12,13 @@ use Rattle.layout_rules.specs.Records.{headPayload, operationPayload, outputPay
 use Rattle.board_rules.specs.Machine.{entryForm, outputForm, depth}
 use Rattle.board_rules.specs.Width.{width}
 use Rattle.board_rules.proofs.Marked.{marked-widths}
-use Rattle.compile_rules.specs.Chains.{signField, chainFrom, chain, chains, rowOutput, rowOutputs}
+use Rattle.sum_rules.specs.Joins.{signField}
+use Rattle.sum_rules.specs.Shallowest.{sumOperations, sumOutputs}
 use Rattle.compile_rules.specs.Compile.{operationsOf, outputsOf, withWidths, netlistOf, compileAnswer}
 use Rattle.compile_rules.specs.Marked.{MarkedBanks}
 
 pub marked-banks : MarkedBanks
-unfolding xor flatMap matrixRows plainCount matrixElimination matrixRefusal matrix rowsFrom coefficientsFrom coefficientAt signedWord headPayload operationPayload outputPayload totalsPayload netlistBytes entryForm outputForm depth width signField chainFrom chain chains rowOutput rowOutputs operationsOf outputsOf withWidths netlistOf compileAnswer
+unfolding xor flatMap matrixRows plainCount matrixElimination matrixRefusal matrix rowsFrom coefficientsFrom coefficientAt signedWord headPayload operationPayload outputPayload totalsPayload netlistBytes entryForm outputForm depth width signField sumOperations sumOutputs operationsOf outputsOf withWidths netlistOf compileAnswer
 marked-banks = record {
   digits = marked-digits;
   elimination = marked-elimination;
@@ -33,6 +34,11 @@ marked-banks = record {
   compiled-negated = refl;
   compiled-eight = refl;
   output-eight = refl;
+  depth-eight = refl;
+  compiled-joins = refl;
+  output-joins = refl;
+  depth-joins = refl;
+  compiled-shallower = refl;
   bytes-three = refl;
   answer-three = refl;
 }

@@ -16,11 +16,12 @@ use Rattle.elimination_rules.specs.declared.Divisor.{Divisor}
 use Rattle.elimination_rules.specs.Rows.{Row, WellFormed, EachRow}
 use Rattle.elimination_rules.specs.Elimination.{Eliminated}
 use Rattle.elimination_rules.proofs.Order.{DivisorsWithin, steps-well-formed, steps-divisors-within}
-use Rattle.compile_rules.specs.Chains.{signField, divisorOperation, chains}
-use Rattle.compile_rules.specs.Compile.{operationsOf, outputsOf}
-use Rattle.compile_rules.specs.Sums.{joinedTerm, Summed, nothing, last, join, SummedRows, end, first-row}
-use Rattle.compile_rules.proofs.Sums.{EachTerm, each-permuted, each-term, each-member}
-use Rattle.compile_rules.proofs.Chains.{remaining-summed}
+use Rattle.sum_rules.specs.Joins.{signField, divisorOperation, joinedTerm}
+use Rattle.compile_rules.specs.Compile.{rowOperations, operationsOf, outputsOf}
+use Rattle.sum_rules.specs.Sums.{Summed, nothing, last, join, SummedRows, end, first-row}
+use Rattle.sum_rules.specs.SumDepth.{EachTerm}
+use Rattle.sum_rules.proofs.Sums.{each-permuted, each-term, each-member}
+use Rattle.compile_rules.proofs.Remaining.{remaining-summed}
 use Rattle.compile_rules.proofs.Counts.{Stepped}
 
 -- ---- all operations from a symbol on
@@ -46,7 +47,7 @@ append-in-range l symbol [] ps h k = subst (λ (s : ℕ). OperationsInRange l s 
 append-in-range l symbol (o ∷ os) ps h k =
     (h .0, append-in-range l (suc symbol) os ps (h .1) (subst (λ (s : ℕ). OperationsInRange l s ps) (next-symbol symbol (length os)) k))
 
--- ---- divisors and chains
+-- ---- divisors and joins
 
 sign-in-range : (b : Bool) → signField b ≤ 1
 unfolding signField
@@ -109,9 +110,9 @@ unfolding operationsOf
 operations-in-range l n rows e some w s =
     let next : ℕ = n + length (e .divisors) in
     let made : List Operation = map divisorOperation (e .divisors) in
-    append-in-range l n made (chains next (e .remainingRows))
+    append-in-range l n made (rowOperations n e)
     (divisors-in-range l n (e .divisors) (steps-divisors-within (l .positions) s w))
-    (subst (λ (k : ℕ). OperationsInRange l (n + k) (chains next (e .remainingRows))) (sym (length-map (e .divisors) divisorOperation))
+    (subst (λ (k : ℕ). OperationsInRange l (n + k) (rowOperations n e)) (sym (length-map (e .divisors) divisorOperation))
     (summed-rows-in-range l some next (remaining-summed n e) (omega arith) (steps-well-formed (l .positions) s w)))
 
 -- no limit but that on shifts is asked for
@@ -161,7 +162,7 @@ unfolding operationsOf
 outputs-in-range l n rows e some inputs w s =
     let next : ℕ = n + length (e .divisors) in
     let made : List Operation = map divisorOperation (e .divisors) in
-    let all : ℕ = n + length (made ++ chains next (e .remainingRows)) in
+    let all : ℕ = n + length (made ++ rowOperations n e) in
     summed-outputs-in-range l all some (omega arith) next (remaining-summed n e) (omega arith)
-    (omega (arith, length-append made (chains next (e .remainingRows)), length-map (e .divisors) divisorOperation))
+    (omega (arith, length-append made (rowOperations n e), length-map (e .divisors) divisorOperation))
     (steps-well-formed (l .positions) s w)

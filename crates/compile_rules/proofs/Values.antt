@@ -3,76 +3,28 @@
 -- Assumes nothing.
 use Prim.Native.Nat.{ℕ, suc, _+_, _^_, _≤_, _<_}
 use mathlib.Core.Path.{_≡_, refl, sym, ap, ap₂, _∙_, subst}
-use mathlib.Core.Bool.{Bool, true, false, xor}
-use mathlib.Core.List.{List, [], _∷_, _++_, map}
+use mathlib.Core.List.{List, [], _∷_, map}
 use native.Mathlib.Omega.{arith}
-use lib.IntN.{ℤ, pos, negℤ, _+ℤ_, _*ℤ_, *ℤ-comm, +ℤ-assoc, +ℤ-idr, negℤ-+ℤ, negℤ-negℤ}
+use lib.IntN.{ℤ, pos, _+ℤ_, _*ℤ_, *ℤ-comm}
 use lib.ListN.{length, length-map}
-use Rattle.integers.proofs.Expression.{at, nat, _⊗_, equal}
-use Rattle.term.specs.declared.Term.{Term}
 use Rattle.layout_rules.specs.declared.Operation.{Operation}
-use Rattle.layout_rules.specs.declared.Output.{Output}
-use Rattle.board_rules.specs.Machine.{entryAt, shifted, joined, machine, withSign, outputValue, times}
+use Rattle.board_rules.specs.Machine.{entryAt, shifted, machine, outputValue, times}
 use Rattle.board_rules.proofs.MachineLaws.{Follows, machine-follows, machine-keeps}
 use Rattle.elimination_rules.specs.declared.Divisor.{Divisor}
-use Rattle.elimination_rules.specs.Rows.{Row, WellFormed, EachRow, signed, termValue, rowSum, rowValue, matrixRows}
+use Rattle.elimination_rules.specs.Rows.{Row, WellFormed, EachRow, signed, rowValue, matrixRows}
 use Rattle.elimination_rules.specs.Divisors.{divisorValue}
 use Rattle.elimination_rules.specs.Elimination.{Eliminated}
 use Rattle.elimination_rules.proofs.Order.{matrix-well-formed}
 use Rattle.elimination_rules.proofs.Value.{Values, steps-value}
 use Rattle.elimination_rules.proofs.Matrix.{coefficientsTimes, row-value}
-use Rattle.compile_rules.specs.Chains.{signField, divisorOperation, chains}
-use Rattle.compile_rules.specs.Compile.{operationsOf, outputsOf}
+use Rattle.sum_rules.specs.Joins.{divisorOperation}
+use Rattle.compile_rules.specs.Compile.{rowOperations, operationsOf, outputsOf}
 use Rattle.compile_rules.specs.Limits.{RowsWithin}
-use Rattle.compile_rules.specs.Sums.{joinedTerm, Summed, nothing, last, join, SummedRows, end, first-row}
-use Rattle.compile_rules.proofs.Sums.{sum-permuted}
-use Rattle.compile_rules.proofs.Chains.{remaining-summed}
+use Rattle.sum_rules.proofs.Values.{outputOf, joined-is, next-symbol, follows-left, follows-right, summed-rows-value}
+use Rattle.compile_rules.proofs.Remaining.{remaining-summed}
 use Rattle.compile_rules.proofs.Counts.{Stepped}
 use Rattle.compile_rules.proofs.Limits.{rows-columns, coefficients-enough}
 use Rattle.compile_rules.proofs.Operands.{operations-earlier}
-
--- what an output gives for values v of the symbols
-abbrev pub outputOf : (ℕ → ℤ) → Output → ℤ
-outputOf v o = withSign (o .sign) (shifted (v (o .symbol)) (o .shift))
-
--- ---- signs and shifts, as the machine and as a row have them
-
-joined-is : (b : Bool) (x y : ℤ) (s : ℕ) → joined (signField b) x (shifted y s) ≡ x +ℤ signed b (pos (2 ^ s) *ℤ y)
-unfolding signField
-joined-is false x y s = ap (λ z. x +ℤ z) (*ℤ-comm y (pos (2 ^ s)))
-joined-is true x y s = ap (λ z. x +ℤ negℤ z) (*ℤ-comm y (pos (2 ^ s)))
-
-signed-is : (b : Bool) (y : ℤ) (s : ℕ) → withSign (signField b) (shifted y s) ≡ signed b (pos (2 ^ s) *ℤ y)
-unfolding signField
-signed-is false y s = *ℤ-comm y (pos (2 ^ s))
-signed-is true y s = ap negℤ (*ℤ-comm y (pos (2 ^ s)))
-
-one-times : (z : ℤ) → pos 1 *ℤ z ≡ z
-one-times z = equal (nat 1 ⊗ at z) (at z) (omega arith)
-
-signed-plus : (b : Bool) (x y : ℤ) → signed b (x +ℤ y) ≡ signed b x +ℤ signed b y
-signed-plus false x y = refl
-signed-plus true x y = negℤ-+ℤ x y
-
-turned-back : (turned b : Bool) (z : ℤ) → signed turned (signed (xor turned b) z) ≡ signed b z
-unfolding xor
-turned-back false false z = refl
-turned-back false true z = refl
-turned-back true false z = negℤ-negℤ z
-turned-back true true z = refl
-
--- ---- what follows an operation list in two parts
-
-pub follows-left : (v : ℕ → ℤ) (s : ℕ) (os ps : List Operation) → Follows v s (os ++ ps) → Follows v s os
-follows-left v s [] ps h = tt
-follows-left v s (o ∷ os) ps h = (h .0, follows-left v (suc s) os ps (h .1))
-
-next-symbol : (s n : ℕ) → suc s + n ≡ s + suc n
-next-symbol s n = omega arith
-
-pub follows-right : (v : ℕ → ℤ) (s : ℕ) (os ps : List Operation) → Follows v s (os ++ ps) → Follows v (s + length os) ps
-follows-right v s [] ps h = subst (λ (k : ℕ). Follows v k ps) (omega arith) h
-follows-right v s (o ∷ os) ps h = subst (λ (k : ℕ). Follows v k ps) (next-symbol s (length os)) (follows-right v (suc s) os ps (h .1))
 
 module _ (v : ℕ → ℤ) where
   -- ---- divisors
@@ -86,53 +38,23 @@ module _ (v : ℕ → ℤ) where
     divisors-follow (suc s) ds (h .1),
   )
 
-  -- ---- sums
-
-  -- a join has the value of its two terms
-  join-value : (next : ℕ) (t u : Term) → v next ≡ joined (signField (xor (t .negative) (u .negative))) (shifted (v (t .symbol)) (t .exponent)) (shifted (v (u .symbol)) (u .exponent))
-      → termValue v (joinedTerm next t) ≡ termValue v t +ℤ termValue v u
-  unfolding termValue
-  join-value next t u e =
-      ap (signed (t .negative)) (one-times (v next) ∙ e
-      ∙ joined-is (xor (t .negative) (u .negative)) (shifted (v (t .symbol)) (t .exponent)) (v (u .symbol)) (u .exponent))
-      ∙ signed-plus (t .negative) (shifted (v (t .symbol)) (t .exponent)) (signed (xor (t .negative) (u .negative)) (pos (2 ^ u .exponent) *ℤ v (u .symbol)))
-      ∙ ap₂ _+ℤ_ (ap (signed (t .negative)) (*ℤ-comm (v (t .symbol)) (pos (2 ^ t .exponent)))) (turned-back (t .negative) (u .negative) (pos (2 ^ u .exponent) *ℤ v (u .symbol)))
-
-  -- the output of a row's sum is the row's value
-  pub summed-value : {next : ℕ} {r : Row} {os : List Operation} {o : Output} → Summed next r os o → Follows v next os → outputOf v o ≡ rowValue v r
-  unfolding rowValue rowSum termValue
-  summed-value nothing f = refl
-  summed-value (last t) f = signed-is (t .negative) (v (t .symbol)) (t .exponent) ∙ sym (+ℤ-idr (termValue v t))
-  summed-value {next} (join t u others p q s) f =
-      summed-value s (f .1)
-      ∙ sym (sum-permuted (termValue v) q)
-      ∙ ap (λ z. z +ℤ rowSum (termValue v) others) (join-value next t u (f .0))
-      ∙ +ℤ-assoc (termValue v t) (termValue v u) (rowSum (termValue v) others)
-      ∙ sym (sum-permuted (termValue v) p)
-
-  pub summed-rows-value : {next : ℕ} {rows : List Row} {os : List Operation} {outputs : List Output} → SummedRows next rows os outputs → Follows v next os
-      → map (outputOf v) outputs ≡ map (rowValue v) rows
-  summed-rows-value end f = refl
-  summed-rows-value {next} (first-row {os = os} {others = others} s more) f =
-      ap₂ _∷_ (summed-value s (follows-left v next os others f)) (summed-rows-value more (follows-right v next os others f))
-
   -- ---- a netlist: where each entry is what its operation makes of its operands, outputs are the values of the first rows
 
   pub divisors-value : (n : ℕ) (e : Eliminated) → Follows v n (operationsOf n e) → Values v n (e .divisors)
   unfolding operationsOf
   divisors-value n e h =
-      divisors-follow n (e .divisors) (follows-left v n (map divisorOperation (e .divisors)) (chains (n + length (e .divisors)) (e .remainingRows)) h)
+      divisors-follow n (e .divisors) (follows-left v n (map divisorOperation (e .divisors)) (rowOperations n e) h)
 
-  pub chains-follow : (n : ℕ) (e : Eliminated) → Follows v n (operationsOf n e) → Follows v (n + length (e .divisors)) (chains (n + length (e .divisors)) (e .remainingRows))
+  pub rows-follow : (n : ℕ) (e : Eliminated) → Follows v n (operationsOf n e) → Follows v (n + length (e .divisors)) (rowOperations n e)
   unfolding operationsOf
-  chains-follow n e h =
+  rows-follow n e h =
       let next : ℕ = n + length (e .divisors) in
       let made : List Operation = map divisorOperation (e .divisors) in
-      subst (λ (k : ℕ). Follows v (n + k) (chains next (e .remainingRows))) (length-map (e .divisors) divisorOperation)
-      (follows-right v n made (chains next (e .remainingRows)) h)
+      subst (λ (k : ℕ). Follows v (n + k) (rowOperations n e)) (length-map (e .divisors) divisorOperation)
+      (follows-right v n made (rowOperations n e) h)
 
   pub outputs-remaining : (n : ℕ) (e : Eliminated) → Follows v n (operationsOf n e) → map (outputOf v) (outputsOf n e) ≡ map (rowValue v) (e .remainingRows)
-  outputs-remaining n e h = summed-rows-value (remaining-summed n e) (chains-follow n e h)
+  outputs-remaining n e h = summed-rows-value v (remaining-summed n e) (rows-follow n e h)
 
   pub outputs-value : (n : ℕ) (rows : List Row) (e : Eliminated) → Stepped n rows e → Follows v n (operationsOf n e) → map (outputOf v) (outputsOf n e) ≡ map (rowValue v) rows
   outputs-value n rows e s h = outputs-remaining n e h ∙ steps-value v s (divisors-value n e h)

@@ -30,14 +30,16 @@ use Rattle.elimination_rules.proofs.Tests.{by-bool}
 use Rattle.elimination_rules.proofs.Order.{Columns, DivisorsWithin, matrix-well-formed, steps-well-formed, steps-divisors-within}
 use Rattle.elimination_rules.proofs.Weights.{WeightsWithin, steps-weights-within, steps-rows-within}
 use Rattle.elimination_rules.proofs.Matrix.{matrix-weights, row-within, values-within}
-use Rattle.compile_rules.specs.Chains.{signField}
+use Rattle.sum_rules.specs.Joins.{signField, joinedTerm}
 use Rattle.compile_rules.specs.Compile.{operationsOf, outputsOf}
-use Rattle.compile_rules.specs.Sums.{joinedTerm, Summed, nothing, last, join, SummedRows, end, first-row}
-use Rattle.compile_rules.proofs.Sums.{EachTerm, each-member, weight-permuted, summed-rows-length}
-use Rattle.compile_rules.proofs.Chains.{remaining-summed}
+use Rattle.sum_rules.specs.Sums.{Summed, nothing, last, join, SummedRows, end, first-row}
+use Rattle.sum_rules.specs.SumDepth.{EachTerm}
+use Rattle.sum_rules.proofs.Sums.{each-member, weight-permuted, summed-rows-length}
+use Rattle.sum_rules.proofs.Values.{outputOf, follows-left, follows-right}
+use Rattle.compile_rules.proofs.Remaining.{remaining-summed}
 use Rattle.compile_rules.proofs.Counts.{Stepped, length-operations}
 use Rattle.compile_rules.proofs.Operands.{EachOutput}
-use Rattle.compile_rules.proofs.Values.{outputOf, follows-left, follows-right, divisors-value, chains-follow, outputs-remaining, entries-follow}
+use Rattle.compile_rules.proofs.Values.{divisors-value, rows-follow, outputs-remaining, entries-follow}
 
 -- ---- the weights of the symbols: those of the inputs, and then one for each divisor
 
@@ -235,7 +237,7 @@ module _ (positions n : ℕ) (m : List (List ℤ)) (e : Eliminated) (some : 1 �
       (λ l. omega (arith, values-small k (omega arith), input-small k l))
       (λ l. by-order k next
       (λ g. omega (arith, values-small k g, weight-within w bound n (e .divisors) (steps-weights-within w bound steps weights first-rows) k l g))
-      (λ g. summed-rows-small v bound (remaining-summed n e) (chains-follow v n e follow) remaining-rows k g
+      (λ g. summed-rows-small v bound (remaining-summed n e) (rows-follow v n e follow) remaining-rows k g
       (omega (arith, length-operations n e, summed-rows-length (remaining-summed n e)))))
 
   pub entry-coefficient : (k : ℕ) → k < n + length (operationsOf n e) → natAbs (entryAt (machine (unit n column) (operationsOf n e)) k) ≤ weightBound positions

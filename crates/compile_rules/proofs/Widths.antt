@@ -25,7 +25,7 @@ module _ (s n : ℕ) (all : List Operation) where
   machine-with-widths symbol [] xs = refl
   machine-with-widths symbol (o ∷ os) xs = machine-with-widths (suc symbol) os (xs ++ (operationValue xs o ∷ []))
 
-  depths-with-widths : (symbol : ℕ) (os : List Operation) (ds : List ℕ) → depths ds (withWidths s n all symbol os) ≡ depths ds os
+  pub depths-with-widths : (symbol : ℕ) (os : List Operation) (ds : List ℕ) → depths ds (withWidths s n all symbol os) ≡ depths ds os
   unfolding withWidths depths
   depths-with-widths symbol [] ds = refl
   depths-with-widths symbol (o ∷ os) ds = depths-with-widths (suc symbol) os (ds ++ (operationDepth ds o ∷ []))

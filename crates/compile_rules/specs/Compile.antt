@@ -1,6 +1,6 @@
 -- Document 01, "Netlist and board machine" and "Why a record was declined": the netlist of a matrix, and compile's answer.
 -- Assumes nothing.
-use Prim.Native.Nat.{ℕ, zero, suc, _+_}
+use Prim.Native.Nat.{ℕ, zero, suc}
 use mathlib.Core.Bool.{true, false}
 use mathlib.Core.List.{List, [], _∷_, _++_, map}
 use lib.Dec.{ltb}
@@ -14,18 +14,26 @@ use Rattle.layout_rules.specs.Matrix.{matrixRefusal, matrix, rows, columns}
 use Rattle.layout_rules.specs.Records.{Netlist, netlistBytes}
 use Rattle.board_rules.specs.Machine.{entryForm, outputForm, depth}
 use Rattle.board_rules.specs.Width.{width}
-use Rattle.compile_rules.specs.Chains.{divisorOperation, chains, rowOutputs}
+use Rattle.sum_rules.specs.Joins.{divisorOperation}
+use Rattle.sum_rules.specs.Shallowest.{orderOfOperands, depthsOf, sumOperations, sumOutputs}
 use Rattle.compile_rules.specs.declared.CompileAnswer.{CompileAnswer}
 
 -- ---- the netlist of a matrix with n columns
 
--- first one operation per divisor, then per remaining row its chain
+-- the depths of the inputs and of the divisors' operations
+abbrev pub divisorDepths : ℕ → Eliminated → List ℕ
+divisorDepths n e = depthsOf n (map divisorOperation (e .divisors))
+
+-- per remaining row its joins
+abbrev pub rowOperations : ℕ → Eliminated → List Operation
+rowOperations n e = sumOperations orderOfOperands (divisorDepths n e) (e .remainingRows)
+
+-- first one operation per divisor, then those of the remaining rows
 unfoldable pub operationsOf : ℕ → Eliminated → List Operation
-operationsOf n e =
-    map divisorOperation (e .divisors) ++ chains (n + length (e .divisors)) (e .remainingRows)
+operationsOf n e = map divisorOperation (e .divisors) ++ rowOperations n e
 
 unfoldable pub outputsOf : ℕ → Eliminated → List Output
-outputsOf n e = rowOutputs (n + length (e .divisors)) (e .remainingRows)
+outputsOf n e = sumOutputs orderOfOperands (divisorDepths n e) (e .remainingRows)
 
 abbrev pub withWidth : ℕ → Operation → Operation
 withWidth w o = record { sign = o .sign; a = o .a; sa = o .sa; b = o .b; sb = o .sb; width = w }

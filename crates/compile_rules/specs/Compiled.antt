@@ -1,11 +1,21 @@
--- Document 01, "Netlist and board machine": the limits that every compiled netlist is held to, and what every accepted answer is.
+-- Document 01, "Netlist and board machine": the limits that every compiled netlist is held to, what every accepted answer is, and that
+-- no way of joining the rows' terms gives a smaller depth.
 -- Assumes nothing.
 use Prim.Native.Nat.{ℕ, _+_, _*_, _≤_}
 use mathlib.Core.Path.{_≡_}
+use mathlib.Core.List.{List, _++_, map}
+use lib.ListN.{length, getD, replicate}
 use Rattle.limits.specs.Limits.{positions, sampleWidth, maxOperations, maxCompiledWidth}
-use Rattle.layout_rules.specs.Records.{headLength}
+use Rattle.layout_rules.specs.declared.Operation.{Operation}
+use Rattle.layout_rules.specs.declared.Output.{Output}
+use Rattle.layout_rules.specs.Records.{headLength, Netlist}
 use Rattle.layout_rules.specs.Places.{netlistLength}
+use Rattle.board_rules.specs.Machine.{depth}
 use Rattle.board_rules.specs.Netlist.{Limits}
+use Rattle.elimination_rules.specs.Elimination.{Eliminated}
+use Rattle.sum_rules.specs.Joins.{divisorOperation, zeroOutput}
+use Rattle.sum_rules.specs.Sums.{SummedRows}
+use Rattle.sum_rules.specs.SumDepth.{outputDepth}
 use Rattle.compile_rules.specs.declared.CompileAnswer.{CompileAnswer}
 
 -- "compiled ones at most 35"
@@ -22,3 +32,13 @@ pub record AcceptedAnswer (m most : ℕ) (a : CompileAnswer) : Type 0 where
   pub plain : a .plain ≤ most
   pub written : a .written ≡ netlistLength headLength (a .operations) m
   pub depth : a .depth ≤ a .operations
+
+-- "Of all ways of joining the same terms two at a time, none gives that row a smaller depth": behind the same divisors' operations, the
+-- remaining rows joined in any way at all, in whatever order and whichever operand is first, give no row's output, and no netlist, a
+-- smaller depth than the one recorded
+pub record NoneShallower (n : ℕ) (e : Eliminated) (recorded : Netlist) : Type 0 where
+  pub each-row : {os : List Operation} {outputs : List Output} → SummedRows (n + length (e .divisors)) (e .remainingRows) os outputs → (i : ℕ)
+      → outputDepth (replicate n 0) (recorded .operations) (getD (recorded .outputs) i zeroOutput)
+      ≤ outputDepth (replicate n 0) (map divisorOperation (e .divisors) ++ os) (getD outputs i zeroOutput)
+  pub netlist : {os : List Operation} {outputs : List Output} → SummedRows (n + length (e .divisors)) (e .remainingRows) os outputs
+      → recorded .totals .depth ≤ depth n (map divisorOperation (e .divisors) ++ os)

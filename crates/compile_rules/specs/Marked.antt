@@ -10,8 +10,10 @@ use Rattle.digits.specs.Marked.{MarkedDigits}
 use Rattle.elimination_rules.specs.Rows.{matrixRows, plainCount}
 use Rattle.elimination_rules.specs.Elimination.{matrixElimination}
 use Rattle.elimination_rules.specs.Marked.{MarkedElimination, single, fourByFour}
+use Rattle.layout_rules.specs.declared.Operation.{Operation}
+use Rattle.layout_rules.specs.declared.Output.{Output}
 use Rattle.layout_rules.specs.Records.{Netlist}
-use Rattle.board_rules.specs.Marked.{MarkedWidths, sumOfTwo, negatedSample, chainOfEight, negatedChain}
+use Rattle.board_rules.specs.Marked.{MarkedWidths, sumOfTwo, negatedSample, sumOfEight, negatedSum}
 use Rattle.compile_rules.specs.Compile.{netlistOf, compiledBytes, compileAnswer}
 use Rattle.compile_rules.specs.declared.CompileAnswer.{CompileAnswer}
 
@@ -38,6 +40,36 @@ abbrev pub threeMinusThreeAnswer : CompileAnswer
 threeMinusThreeAnswer =
     record { refusal = 0; place = 0; written = 49; operations = 2; plain = 3; divisors = 1; replacements = 2; depth = 2 }
 
+-- row −3, 5, 7, −1: no divisor, seven terms; 4 = 0<<0 - 0<<2 width 18; 5 = 1<<0 + 1<<2 width 19; 6 = 2<<0 - 2<<3 width 19;
+-- 7 = 3<<0 - 4<<0 width 18; 8 = 5<<0 - 6<<0 width 20; 9 = 7<<0 - 8<<0 width 20; row 0 = -9<<0 width 20
+abbrev pub sevenTerms : List (List ℤ)
+sevenTerms = (negsuc 2 ∷ pos 5 ∷ pos 7 ∷ negsuc 0 ∷ []) ∷ []
+
+abbrev pub sixJoins : List Operation
+sixJoins =
+    record { sign = 1; a = 0; sa = 0; b = 0; sb = 2; width = 18 }
+    ∷ record { sign = 0; a = 1; sa = 0; b = 1; sb = 2; width = 19 }
+    ∷ record { sign = 1; a = 2; sa = 0; b = 2; sb = 3; width = 19 }
+    ∷ record { sign = 1; a = 3; sa = 0; b = 4; sb = 0; width = 18 }
+    ∷ record { sign = 1; a = 5; sa = 0; b = 6; sb = 0; width = 20 }
+    ∷ record { sign = 1; a = 7; sa = 0; b = 8; sb = 0; width = 20 }
+    ∷ []
+
+abbrev pub negatedJoin : Output
+negatedJoin = record { sign = 1; symbol = 9; shift = 0; width = 20 }
+
+-- rows 1 1 1 1 1, 1 1 1 0 0: 5 = 0<<0 + 1<<0 width 17; 6 = 2<<0 + 5<<0 width 18; 7 = 3<<0 + 4<<0 width 17; 8 = 7<<0 + 6<<0 width 19
+abbrev pub fiveAndThree : List (List ℤ)
+fiveAndThree = replicate 5 (pos 1) ∷ (pos 1 ∷ pos 1 ∷ pos 1 ∷ pos 0 ∷ pos 0 ∷ []) ∷ []
+
+abbrev pub shallowerFirst : List Operation
+shallowerFirst =
+    record { sign = 0; a = 0; sa = 0; b = 1; sb = 0; width = 17 }
+    ∷ record { sign = 0; a = 2; sa = 0; b = 5; sb = 0; width = 18 }
+    ∷ record { sign = 0; a = 3; sa = 0; b = 4; sb = 0; width = 17 }
+    ∷ record { sign = 0; a = 7; sa = 0; b = 6; sb = 0; width = 19 }
+    ∷ []
+
 pub record MarkedBanks : Type 0 where
   -- 0 none; 6 = 8 − 2; 23 = 32 − 8 − 1; 32,767 = 2^15 − 1; −32,768 = −2^15; 21,845 has eight
   pub digits : MarkedDigits
@@ -59,8 +91,15 @@ pub record MarkedBanks : Type 0 where
   pub compiled-sum : netlistFor 1 2 ((pos 1 ∷ pos 1 ∷ []) ∷ []) .operations ≡ sumOfTwo
   pub operations-negated : netlistFor 1 1 ((negsuc 0 ∷ []) ∷ []) .operations ≡ []
   pub compiled-negated : netlistFor 1 1 ((negsuc 0 ∷ []) ∷ []) .outputs ≡ negatedSample ∷ []
-  pub compiled-eight : netlistFor 1 8 (replicate 8 (negsuc 32767) ∷ []) .operations ≡ chainOfEight
-  pub output-eight : netlistFor 1 8 (replicate 8 (negsuc 32767) ∷ []) .outputs ≡ negatedChain ∷ []
+  pub compiled-eight : netlistFor 1 8 (replicate 8 (negsuc 32767) ∷ []) .operations ≡ sumOfEight
+  pub output-eight : netlistFor 1 8 (replicate 8 (negsuc 32767) ∷ []) .outputs ≡ negatedSum ∷ []
+  pub depth-eight : netlistFor 1 8 (replicate 8 (negsuc 32767) ∷ []) .totals .depth ≡ 3
+  -- row −3, 5, 7, −1: among equal depths the symbol decides, then the exponent; depth 3
+  pub compiled-joins : netlistFor 1 4 sevenTerms .operations ≡ sixJoins
+  pub output-joins : netlistFor 1 4 sevenTerms .outputs ≡ negatedJoin ∷ []
+  pub depth-joins : netlistFor 1 4 sevenTerms .totals .depth ≡ 3
+  -- rows 1 1 1 1 1, 1 1 1 0 0: 7, of depth 1, comes before 6, of depth 2
+  pub compiled-shallower : netlistFor 2 5 fiveAndThree .operations ≡ shallowerFirst
   -- row 3, −3
   pub bytes-three : compiledBytes threeMinusThreeRecord ≡ threeMinusThreeNetlist
   pub answer-three : compileAnswer threeMinusThreeRecord 49 ≡ threeMinusThreeAnswer

@@ -14,11 +14,11 @@ use Rattle.elimination_rules.specs.Elimination.{Eliminated, shallowestFirst, el
 use Rattle.elimination_rows.specs.State.{rowsTerms, Ready}
 use Rattle.elimination_kept.proofs.TableLaws.{blank-length}
 use Rattle.compile_lists.specs.Lists.{operationsList}
-use Rattle.compile_rules.specs.Chains.{divisorOperation}
+use Rattle.sum_rules.specs.Joins.{divisorOperation}
 use Rattle.compile_rules.specs.Compile.{eliminationOf}
 use Rattle.compile_plan.specs.Planned.{EliminatedOf}
 use Rattle.compile_rules.proofs.Compiled.{plain-most}
-use Rattle.compile_plan.proofs.PlanLaws.{enough-steps, ready, operations-sum, remaining-few, operations-of, outputs-of, elimination-is}
+use Rattle.compile_plan.proofs.PlanLaws.{enough-steps, ready, operations-sum, remaining-few, remaining-known, operations-of, outputs-of, elimination-is}
 use Rattle.compile_plan.proofs.plan.Statement.{statement}
 use Rattle.compile_plan.proofs.plan.Tie as tie
 
@@ -96,8 +96,8 @@ module _ (c : tie.After-eliminate-rows) where
   abbrev end : Eliminated
   end = eliminationOf (bytes start)
 
-  end-is : EliminatedOf end (c .eliminate-rows .result)
-  end-is = subst (λ (e : Eliminated). EliminatedOf e (c .eliminate-rows .result))
+  end-is : EliminatedOf (columns (bytes start)) end (c .eliminate-rows .result)
+  end-is = subst (λ (e : Eliminated). EliminatedOf (columns (bytes start)) e (c .eliminate-rows .result))
       (enough-steps (columns (bytes start)) (rowsTerms (counted .before .matrix-rows .result)) (counted .plain-count .result) (counted .plain-count .ensures)
       ∙ ap (elimination (shallowestFirst (columns (bytes start))) (columns (bytes start))) (first-is (counted .before))
       ∙ elimination-is (bytes start)) (c .eliminate-rows .ensures .0)
@@ -111,37 +111,29 @@ module _ (c : tie.After-eliminate-rows) where
 count-requires : tie.Need-count-requires
 count-requires c κs = search needs
 
-with-chains-requires : tie.Need-with-chains-requires
-with-chains-requires c κs = let g = c .before .before .before in (accepted (start g) .limits .columns-most, sum g)
-
-add-row-outputs : tie.Need-add-row-outputs
-add-row-outputs c = let g = c .before .before .before .before in omega (arith, sum g, c .before .count .ensures, accepted (start g) .limits .columns-most)
-
-cast-row-outputs : tie.Need-cast-row-outputs
-cast-row-outputs c = let g = c .before .before .before .before in omega (arith, sum g, c .before .count .ensures, accepted (start g) .limits .columns-most)
-
-row-outputs-requires : tie.Need-row-outputs-requires
-row-outputs-requires c κs =
-    let g = c .before .before .before .before in
-    let k = start g in (
-      omega (arith, sum g, c .before .count .ensures, accepted k .limits .columns-most),
-      omega (arith, ap (length {A = Row}) (end-is g .rows), remaining-few (bytes k) (all k) (k .before .pre)),
+sum-rows-requires : tie.Need-sum-rows-requires
+sum-rows-requires c κs =
+    let g = c .before .before .before .before .before in
+    let k = start g in
+    let e = end-is g in (
+      (accepted k .limits .columns-most, omega (arith, ap (length {A = Row}) (e .rows), remaining-few (bytes k) (all k) (k .before .pre)), sum g),
+      (rw (e .rows, made g) (remaining-known (bytes k) (all k) (k .before .pre)), e .depths),
     )
 
 returns : tie.Need-returns
 returns c =
-    let w = c .before in
-    let count = w .before in
-    let g = count .before .before .before in
+    let joined = c .before .before in
+    let count = joined .before .before .before .before in
+    let g = count .before .before in
     let k = start g in
-    let n = columns (bytes k) in
     let e = end-is g in
-    let many : count .count .result ≡ length (end g .divisors) = count .count .ensures ∙ made g in
+    let os = operationsList (g .eliminate-rows .result .operations) in
+    let remaining = rowsTerms (g .eliminate-rows .result .rows) in
     record {
-      operations = operations-of n (end g) (operationsList (g .eliminate-rows .result .operations)) _ (rowsTerms (g .eliminate-rows .result .rows)) (e .operations) (w .with-chains .ensures) (e .rows);
-      outputs = outputs-of n (end g) _ _ (rowsTerms (g .eliminate-rows .result .rows)) (c .row-outputs .ensures) (ap (λ (x : ℕ). n + x) many) (e .rows);
+      operations = operations-of (columns (bytes k)) (end g) os _ remaining (e .operations) (joined .sum-rows .ensures .0) (e .rows);
+      outputs = outputs-of (columns (bytes k)) (end g) os _ remaining (e .operations) (joined .sum-rows .ensures .1) (e .rows);
       plain = counted g .plain-count .ensures ∙ ap plainCount (first-is (counted g .before));
-      divisors = many;
+      divisors = count .count .ensures ∙ made g;
       replacements = e .replacements;
     }
 
@@ -160,8 +152,5 @@ plan-spec =
     cast-eliminate-rows
     eliminate-rows-requires
     count-requires
-    with-chains-requires
-    add-row-outputs
-    cast-row-outputs
-    row-outputs-requires
+    sum-rows-requires
     returns)

@@ -3,10 +3,12 @@ use borrow.Author.Needs.{needs}
 use native.Mathlib.Omega.{arith}
 use native.Mathlib.Numerals.{add-one}
 use Prim.Native.Nat.{suc, _+_, _-_, _≤_, _<_}
-use mathlib.Core.Path.{_≡_, ap, _∙_}
+use mathlib.Core.Path.{_≡_, sym, ap, subst, _∙_}
 use mathlib.Core.Logic.{⊎-elim}
-use mathlib.Core.List.{[], map}
+use mathlib.Core.List.{List, [], map}
 use lib.ListN.{length, take, set, length-take, length-set}
+use Rattle.layout_rules.specs.declared.Operation.{Operation}
+use Rattle.board_rules.specs.Table.{HoldsDepths}
 use Rattle.limits.specs.Limits.{maxColumns, maxOperations, positions, termSymbols}
 use Rattle.elimination_rules.specs.declared.Divisor.{Divisor}
 use Rattle.elimination_rules.specs.Rows.{plainCount}
@@ -20,7 +22,7 @@ use Rattle.elimination_rows.proofs.Filled.{filled-more}
 use Rattle.elimination_kept.specs.Table.{tableOf, scoredOf}
 use Rattle.elimination_state.specs.Running.{Running}
 use Rattle.elimination_state.proofs.Next.{table-fits}
-use Rattle.compile_rules.specs.Chains.{divisorOperation}
+use Rattle.sum_rules.specs.Joins.{divisorOperation}
 use Rattle.compile_plan.proofs.EndLaws.{BeforeStep, before-first, length-made, symbols-few, spent-is, ended-is, plain-less, next-within, within, depths-small, proper, before-next}
 use Rattle.compile_plan.proofs.eliminated.eliminate_rows.Statement.{statement}
 use Rattle.compile_plan.proofs.eliminated.eliminate_rows.Tie as tie
@@ -225,6 +227,7 @@ returns c =
     ∙ ap (eliminate (shallowestFirst (s .args .n)) (s .args .most) (s .args .n) []) first in (
       record {
         operations = c .of .ensures ∙ b .operations-made ∙ ap (λ (x : Eliminated). map divisorOperation (x .divisors)) e;
+        depths = subst (λ (os : List Operation). HoldsDepths (s .args .n) os (L .loop .depths)) (sym (c .of .ensures)) (b .depths-held);
         replacements = ap (λ (x : Eliminated). x .replacements) e;
         rows = ap (λ (x : Eliminated). x .remainingRows) e;
       },

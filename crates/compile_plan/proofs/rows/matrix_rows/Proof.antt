@@ -3,15 +3,14 @@ use borrow.Author.Needs.{needs}
 use native.Mathlib.Omega.{arith}
 use Prim.Native.Nat.{ℕ, suc, _*_, _-_, _≤_, _<_}
 use mathlib.Core.Path.{_≡_, ap, ap₂, _∙_}
-use mathlib.Core.List.{_++_}
+use mathlib.Core.List.{[], _∷_, _++_}
 use native.Mathlib.Numerals.{add-one}
 use native.Mathlib.Nat.{mul-le-mul-right}
-use lib.ListN.{length}
+use lib.ListN.{length, length-append}
 use Rattle.limits.specs.Limits.{positions}
 use Rattle.layout_rules.specs.Matrix.{rowsFrom}
-use Rattle.elimination_rules.specs.Rows.{matrixRows}
+use Rattle.elimination_rules.specs.Rows.{Row, matrixRows}
 use Rattle.elimination_rows.specs.State.{rowTerms, rowsTerms}
-use Rattle.compile_chains.proofs.ChainLaws.{snoc-length}
 use Rattle.compile_plan.proofs.RowLaws.{rows-next, rows-end}
 use Rattle.compile_plan.proofs.rows.matrix_rows.Statement.{statement}
 use Rattle.compile_plan.proofs.rows.matrix_rows.Tie as tie
@@ -60,7 +59,7 @@ loop-again c =
     let h : i < s .args .m = omega arith in
     rw (add-one i) (
       omega arith,
-      snoc-length out after _ (c .with-row .ensures) ∙ ap suc (L .loop .inv .1),
+      omega (arith, ap (length {A = Row}) (c .with-row .ensures), length-append out (rowTerms (c .before .matrix-row .result) ∷ []), L .loop .inv .1),
       rows-next positions (s .args .bytes .now) (s .args .n) i (s .args .m) (rowTerms (c .before .matrix-row .result)) out after h (c .before .matrix-row .ensures) (c .with-row .ensures) ∙ L .loop .inv .2,
     )
 

@@ -1,0 +1,9 @@
+-- Laws of row sums, lowest first.
+pub mod Sums
+pub mod Values
+pub mod TermOrder
+pub mod RowSums
+pub mod Powers
+pub mod RowDepth
+pub mod RowsDepth
+pub mod Placing

@@ -1,0 +1,5 @@
+pub mod Joins
+pub mod Sums
+pub mod Shallowest
+pub mod SumDepth
+pub mod Placing
