@@ -1,6 +1,7 @@
 //! Measures both sides and writes docs/BENCHMARKS.md: bench FOLDER-OF-THE-REPOSITORY.
 
 mod burn_in;
+mod depths;
 mod machine;
 mod occurrences;
 mod programs;
@@ -94,6 +95,8 @@ fn main() {
     });
     tables::touched(&mut text, &sizes);
     tables::burn_in(&mut text, &burn_in);
+    tables::depths(&mut text, &depths::drawn());
+    tables::published_depths(&mut text, &depths::published());
     tables::memory(&mut text, &memory);
     tables::absolute(&mut text, &calls, &instructions, &machine);
     replace_measured(&root.join("docs/BENCHMARKS.md"), &text);

@@ -4,6 +4,7 @@ use std::fmt::Write;
 
 use bench::CALLS;
 
+use crate::depths::{Means, METHODS};
 use crate::programs::{Figures, Memory};
 use crate::text::{seconds, thousands};
 use crate::times::Times;
@@ -93,6 +94,46 @@ pub fn burn_in(text: &mut String, runs: &[(&str, [f64; 2])]) {
         let ratio = format!("{:.1}", verified / independent);
         let times = [verified, independent].map(seconds);
         row(text, &[&[seeds.to_string(), ratio], &times[..]].concat());
+    }
+    text.push('\n');
+}
+
+pub fn depths(text: &mut String, rows: &[(String, Means)]) {
+    text.push_str("## Operations and depth\n\nMeans over 100 random banks.\n\n");
+    let columns = [
+        "m by n",
+        "Operations",
+        "Depth with chains, before request A4",
+        "Depth",
+    ];
+    header(text, &columns);
+    for (label, means) in rows {
+        let numbers = [means.operations, means.before, means.depth];
+        let [operations, before, depth] = numbers.map(|number| format!("{number:.1}"));
+        row(text, &[label.clone(), operations, before, depth]);
+    }
+    text.push('\n');
+}
+
+pub fn published_depths(text: &mut String, rows: &[(usize, Means, [&str; 7])]) {
+    text.push_str(
+        "Beside Table 2 of source document 000 (Aksoy and others, Multiplierless Design of Linear DSP Transforms), a cell has the mean \
+         number of operations and the mean depth, there `adder` and `step`. Its steps are what depth is here; all else differs \
+         in kind. Its methods are other algorithms, and the last three get a limit of the steps: the least is the binary \
+         logarithm, rounded up, of the most terms in a row of the matrix. Its banks are 100 random ones of its own for each m, with \
+         coefficients from 129 to 255; here 100 others are drawn from that range, evenly.\n\n",
+    );
+    let ours = ["m by m", "Zaatarloft with chains", "Zaatarloft"];
+    header(text, &[&ours, &METHODS[..]].concat());
+    for (size, means, figures) in rows {
+        let ours = |depth| format!("{:.1}, {depth:.1}", means.operations);
+        let cells = [
+            format!("{size} by {size}"),
+            ours(means.before),
+            ours(means.depth),
+        ];
+        let figures = figures.map(str::to_string);
+        row(text, &[&cells[..], &figures[..]].concat());
     }
     text.push('\n');
 }

@@ -1,5 +1,5 @@
-//! The lists of docs/ARCHITECTURE.md are complete: the map has every crate, and the files that a reader must believe are those that
-//! the promises' definitions cite.
+//! The lists of docs/ARCHITECTURE.md are complete: the map has every crate, functions are named in crates that there are, and the files
+//! that a reader must believe are those that the promises' definitions cite.
 
 use std::collections::BTreeSet;
 use std::fs;
@@ -112,6 +112,26 @@ fn believed_files_are_listed() {
     }
 }
 
+/// The names in crates.txt.
+fn crates() -> BTreeSet<&'static str> {
+    let lines = CRATES.lines().filter(|line| !line.starts_with('#'));
+    let names = lines.filter_map(|line| line.split_once(':'));
+    names.map(|(name, _)| name).collect()
+}
+
+/// A name as `compile_sums::sum_rows` begins with its crate, or with a struct.
+#[test]
+fn named_functions_stand_in_crates() {
+    let paths = quoted(ARCHITECTURE).filter_map(|name| name.split_once("::"));
+    let firsts: BTreeSet<&str> = paths.map(|(first, _)| first).collect();
+    let named = firsts
+        .iter()
+        .filter(|name| name.starts_with(char::is_lowercase));
+    let gone: Vec<&&str> = named.filter(|name| !crates().contains(*name)).collect();
+    assert!(firsts.len() > 10, "only {firsts:?}");
+    assert!(gone.is_empty(), "no crates: {gone:?}");
+}
+
 #[test]
 fn map_has_every_crate() {
     let (_, map) = ARCHITECTURE
@@ -119,11 +139,6 @@ fn map_has_every_crate() {
         .expect("the map");
     let first_cells = map.lines().filter_map(|line| line.split('|').nth(1));
     let mapped: BTreeSet<&str> = first_cells.flat_map(quoted).collect();
-    let names = CRATES.lines().filter(|line| !line.starts_with('#'));
-    let unmapped: Vec<&str> = names
-        .filter_map(|line| line.split_once(':'))
-        .map(|(name, _)| name)
-        .filter(|name| !mapped.contains(name))
-        .collect();
+    let unmapped: Vec<&str> = crates().difference(&mapped).copied().collect();
     assert!(unmapped.is_empty(), "not in the map: {unmapped:?}");
 }

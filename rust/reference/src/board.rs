@@ -1,6 +1,7 @@
 //! Netlist and board machine: operations and outputs as data.
 
 use crate::elimination::{Divisor, Elimination};
+use crate::sums::{Operations, Sums};
 
 /// The most operations of a netlist.
 pub(crate) const MOST_OPERATIONS: usize = 504;
@@ -54,42 +55,18 @@ pub(crate) struct Board {
 }
 
 impl Board {
-    /// One operation for each divisor, then the chain of each of the m remaining rows.
-    pub fn of_elimination(elimination: &Elimination, m: usize, n: usize) -> Self {
-        let divisors = elimination.divisors.iter();
-        let mut board = Board {
+    /// One operation for each divisor, then the operations that sum each of the m remaining rows.
+    pub fn of_elimination(elimination: &Elimination, sums: Sums, m: usize, n: usize) -> Self {
+        let mut operations = Operations::with_inputs(n);
+        for divisor in &elimination.divisors {
+            operations.append(Operation::of_divisor(divisor));
+        }
+        let sum = |row| operations.sum(elimination.rows.terms(row), sums);
+        let outputs = (0..m).map(sum).collect();
+        Board {
             n,
-            operations: divisors.map(Operation::of_divisor).collect(),
-            outputs: Vec::with_capacity(m),
-        };
-        for row in 0..m {
-            let output = board.chain(elimination.rows.terms(row));
-            board.outputs.push(output);
-        }
-        board
-    }
-
-    /// Sums the terms of a row in order; minus at the output stands in for a negative first term.
-    fn chain(&mut self, mut terms: impl Iterator<Item = (u16, u8, bool)>) -> Output {
-        let (minus, mut sum) = match terms.next() {
-            None => return Output::Zero,
-            Some((symbol, shift, minus)) => (minus, Operand { symbol, shift }),
-        };
-        for (symbol, shift, term_minus) in terms {
-            let next = (self.n + self.operations.len()) as u16;
-            self.operations.push(Operation {
-                subtract: term_minus != minus,
-                a: sum,
-                b: Operand { symbol, shift },
-            });
-            sum = Operand {
-                symbol: next,
-                shift: 0,
-            };
-        }
-        Output::Entry {
-            minus,
-            operand: sum,
+            operations: operations.operations,
+            outputs,
         }
     }
 }

@@ -4,6 +4,7 @@ use crate::board::{Board, Operand, Operation, Output};
 use crate::elimination::{Elimination, Order, Rows};
 use crate::matrix::Matrix;
 use crate::refusal::{require, Refusal};
+use crate::sums::Sums;
 use crate::width::Entries;
 
 /// What an accepted compile returns.
@@ -19,21 +20,24 @@ pub struct Compiled {
     pub depth: u16,
 }
 
+/// Rules that a later request has changed. The default ones are in force.
+#[derive(Clone, Copy, Debug, Default)]
+pub struct Rules {
+    pub order: Order,
+    pub sums: Sums,
+}
+
 /// Writes the netlist of a matrix record into the first bytes of `buffer`.
 pub fn compile(matrix: &[u8], buffer: &mut [u8]) -> Result<Compiled, Refusal> {
-    compile_by(Order::DepthThenDivisor, matrix, buffer)
+    compile_by(Rules::default(), matrix, buffer)
 }
 
-/// Compile as it was before request A2: depth does not count among divisors of equal score. For tests alone.
-pub fn compile_without_depth(matrix: &[u8], buffer: &mut [u8]) -> Result<Compiled, Refusal> {
-    compile_by(Order::DivisorAlone, matrix, buffer)
-}
-
-fn compile_by(order: Order, matrix: &[u8], buffer: &mut [u8]) -> Result<Compiled, Refusal> {
+/// Compile by rules of which some were in force before. For tests and the benchmark alone.
+pub fn compile_by(rules: Rules, matrix: &[u8], buffer: &mut [u8]) -> Result<Compiled, Refusal> {
     let matrix = Matrix::of_record(matrix)?;
     let plain = plain_count(&Rows::of_matrix(&matrix), matrix.m);
-    let elimination = Elimination::of_matrix(&matrix, order);
-    let board = Board::of_elimination(&elimination, matrix.m, matrix.n);
+    let elimination = Elimination::of_matrix(&matrix, rules.order);
+    let board = Board::of_elimination(&elimination, rules.sums, matrix.m, matrix.n);
     require(buffer.len() >= size(&board), 6, 0)?;
 
     let mut writer = Writer { buffer, place: 0 };

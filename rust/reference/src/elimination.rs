@@ -115,9 +115,10 @@ impl Rows {
 }
 
 /// What decides among divisors of equal score.
-#[derive(Clone, Copy, Debug)]
-pub(crate) enum Order {
+#[derive(Clone, Copy, Debug, Default)]
+pub enum Order {
     /// The smallest depth of the operation that a divisor would become, then the smallest divisor.
+    #[default]
     DepthThenDivisor,
     /// The smallest divisor alone, as before request A2.
     DivisorAlone,

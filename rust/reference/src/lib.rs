@@ -2,8 +2,8 @@
 //!
 //! It is the other side of every comparison with the verified library: tests hold the two answers against each other, and
 //! the benchmark takes it as its base. The calls have the shape of the verified library's wrappers, and a buffer that
-//! a call is lent changes only where the call is accepted. `compile_without_depth`, which the library does not have, says
-//! what netlists were before request A2, and `literal` goes through elimination state by state.
+//! a call is lent changes only where the call is accepted. `compile_by`, which the library does not have, says what netlists
+//! were before request A2 or A4, and `literal` goes through elimination state by state.
 
 mod board;
 mod check;
@@ -17,13 +17,15 @@ mod read;
 mod record;
 mod refusal;
 mod run;
+mod sums;
 mod width;
 
 pub use check::check;
-pub use compile::{compile, compile_without_depth, Compiled};
-pub use elimination::Divisor;
+pub use compile::{compile, compile_by, Compiled, Rules};
+pub use elimination::{Divisor, Order};
 pub use generator::generate;
 pub use read::{read, Netlist};
 pub use record::{step, Record};
 pub use refusal::{returned, Refusal};
 pub use run::run;
+pub use sums::Sums;

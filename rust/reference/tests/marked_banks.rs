@@ -1,8 +1,8 @@
 //! Document 01's marked banks and its example.
 
 use cases::Matrix;
-use reference::{check, compile, compile_without_depth, read, run, step};
-use reference::{Compiled, Netlist, Refusal};
+use reference::{check, compile, compile_by, read, run, step};
+use reference::{Compiled, Netlist, Order, Refusal, Rules};
 
 fn compiled(rows: &[&[i16]]) -> (Compiled, Vec<u8>) {
     let matrix = Matrix::of_rows(rows);
@@ -107,7 +107,12 @@ fn sums_of_five() {
     assert_eq!((bank.divisors, bank.replacements, bank.depth), (3, 6, 3));
     assert_eq!(netlist[8..44], [first, shallow, deep].concat());
 
+    let order = Order::DivisorAlone;
+    let rules = Rules {
+        order,
+        ..Rules::default()
+    };
     let mut buffer = [0; 6136];
-    compile_without_depth(&Matrix::of_rows(&rows).record(), &mut buffer).unwrap();
+    compile_by(rules, &Matrix::of_rows(&rows).record(), &mut buffer).unwrap();
     assert_eq!(buffer[8..44], [first, deep, shallow].concat());
 }

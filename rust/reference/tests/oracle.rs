@@ -13,7 +13,7 @@ use cases::{any_matrix, any_netlist, damage, damage_matrix, each, plain_netlist,
 use reference::Refusal;
 
 /// How many of the later requests are in force: the program's first word.
-const REQUESTS: &str = "3";
+const REQUESTS: &str = "4";
 
 fn bank(words: &[&str], input: &[u8]) -> Output {
     let program = env::var("BANK").expect("BANK is the path of bank.py");

@@ -7,7 +7,8 @@ use reference::returned;
 
 use crate::case::{Call, Case};
 use crate::matrices::{
-    banks_with_equal_scores, matrices, netlist, refused_records, three_minus_three, ROOM,
+    banks_with_equal_depths, banks_with_equal_scores, matrices, netlist, refused_records,
+    three_minus_three, ROOM,
 };
 
 /// What a lent buffer holds before.
@@ -20,10 +21,19 @@ pub fn cases() -> Vec<Case> {
         .collect()
 }
 
+fn banks() -> Vec<Matrix> {
+    [
+        matrices(),
+        banks_with_equal_scores(),
+        banks_with_equal_depths(),
+    ]
+    .concat()
+}
+
 /// Lengths of the buffer, and matrix records.
 fn inputs() -> Vec<(usize, Vec<u8>)> {
     let mut all = Vec::new();
-    for matrix in [matrices(), banks_with_equal_scores()].concat() {
+    for matrix in banks() {
         let record = matrix.record();
         all.push((netlist(&record).len() + matrix.m(), record));
     }
@@ -60,26 +70,60 @@ fn case(room: usize, record: &[u8]) -> Case {
     Case::of_call(Call::Compile, [room, record.len()], record, printed)
 }
 
+/// The records that are compiled, once each.
+#[cfg(test)]
+pub fn compiled_records() -> Vec<Vec<u8>> {
+    let mut records: Vec<Vec<u8>> = inputs().into_iter().map(|(_, record)| record).collect();
+    records.retain(|record| reference::compile(record, &mut [0; ROOM]).is_ok());
+    records.sort();
+    records.dedup();
+    records
+}
+
 #[cfg(test)]
 mod tests {
-    use std::collections::HashSet;
-
     use super::*;
+    use reference::{compile_by, Compiled, Order, Rules, Sums};
+
+    /// The answer and the netlist of a record, by some rules.
+    fn compiled(rules: Rules, record: &[u8]) -> (Compiled, Vec<u8>) {
+        let mut buffer = vec![OLD; ROOM];
+        let answer = compile_by(rules, record, &mut buffer);
+        (answer.expect("a right record"), buffer)
+    }
 
     /// Before request A2 the depth of a divisor's operation did not count among equal scores.
     #[test]
-    fn at_least_fifty_stored_matrices_have_other_bytes_than_before_request_a2() {
-        let records: HashSet<Vec<u8>> = inputs().into_iter().map(|(_, record)| record).collect();
+    fn at_least_fifty_stored_matrices_have_other_bytes_where_depth_does_not_count() {
+        let (order, sums) = (Order::DivisorAlone, Sums::default());
         let differs = |record: &&Vec<u8>| {
-            let (mut now, mut before) = ([OLD; ROOM], [OLD; ROOM]);
-            let answers = [
-                reference::compile(record, &mut now),
-                reference::compile_without_depth(record, &mut before),
-            ];
-            answers.iter().all(Result::is_ok) && now != before
+            let now = compiled(Rules::default(), record);
+            now.1 != compiled(Rules { order, sums }, record).1
         };
-        let count = records.iter().filter(differs).count();
-        println!("{count} stored matrices have other bytes than before request A2");
+        let count = compiled_records().iter().filter(differs).count();
+        println!("{count} stored matrices have other bytes where depth does not count");
         assert!(count >= 50, "only {count} stored matrices have other bytes");
+    }
+
+    /// Chains were what request A4 has replaced.
+    #[test]
+    fn at_least_fifty_stored_matrices_are_shallower_than_with_chains() {
+        let (order, sums) = (Order::default(), Sums::Chain);
+        let (mut others, mut shallower, records) = (0, 0, compiled_records());
+        for record in &records {
+            let (now, netlist) = compiled(Rules::default(), record);
+            let (before, chains) = compiled(Rules { order, sums }, record);
+            assert_eq!(now.operations, before.operations);
+            assert!(now.depth <= before.depth);
+            others += usize::from(netlist != chains);
+            shallower += usize::from(now.depth < before.depth);
+        }
+        let all = records.len();
+        println!("of {all} stored matrices {others} have other bytes than with chains");
+        println!("and {shallower} a smaller depth");
+        assert!(
+            shallower >= 50,
+            "only {shallower} stored matrices are shallower"
+        );
     }
 }

@@ -15,6 +15,8 @@ mod mersenne_twister;
 mod netlists;
 mod run;
 mod scores;
+#[cfg(test)]
+mod ties;
 
 use std::path::{Path, PathBuf};
 use std::{env, fs};

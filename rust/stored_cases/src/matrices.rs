@@ -91,6 +91,34 @@ pub fn banks_with_equal_scores() -> Vec<Matrix> {
     all
 }
 
+/// For compile alone, banks of few digits: ties in depth decide how their rows are summed. 549 and 483 have digits at 0, 2, 5 and 9, of
+/// which no two pairs have one distance, so that no divisor takes them.
+pub fn banks_with_equal_depths() -> Vec<Matrix> {
+    let mut random = MersenneTwister::new(&[20_261_117]);
+    let mut all = vec![
+        // inputs alone, of which symbols decide
+        Matrix::of_rows(&[&[1, 1, 1]]),
+        Matrix::of_rows(&[&[-1, 1, 1]]),
+        filled(1, 5, || -1),
+        filled(1, 8, || 2),
+        // terms of one symbol, an input's or a divisor's, of which exponents decide
+        Matrix::of_rows(&[&[549]]),
+        Matrix::of_rows(&[&[-483]]),
+        Matrix::of_rows(&[&[549, 549]]),
+        Matrix::of_rows(&[&[549, -483]]),
+        // sums of inputs beside a divisor of their depth, 1 or 2
+        Matrix::of_rows(&[&[1, 1, 1, 1], &[-8, -8, 0, 0]]),
+        Matrix::of_rows(&[&[549, 549, 1, 1, 1]]),
+        Matrix::of_rows(&[&[1, 1, 1, 1, 1, 1, 1], &[1, 1, 1, 0, 0, 0, 0]]),
+    ];
+    for m in 1..=8 {
+        let n = random.between(4, 8) as usize;
+        all.push(filled(m, n, || random.choose(&[0, 0, 1, -1, 16, 21, 549])));
+        all.push(filled(m, n, || random.between(-8, 7) as i16));
+    }
+    all
+}
+
 /// Matrix records that are refused, with 1 to 5.
 pub fn refused_records() -> Vec<Vec<u8>> {
     let right = three_minus_three().record();

@@ -27,8 +27,8 @@ pub fn test_scores() -> Case {
     case
 }
 
-/// Different matrices: those of compile's cases, small ones whose digits repeat, spread ones, rows with the most terms, and banks of
-/// the burn-in.
+/// Different matrices: those of all sizes, those with equal scores, small ones whose digits repeat, spread ones, rows with the most
+/// terms, and banks of the burn-in.
 fn records() -> Vec<Vec<u8>> {
     let mut random = Random::new(20_261_117);
     let mut matrices = [matrices(), banks_with_equal_scores()].concat();
