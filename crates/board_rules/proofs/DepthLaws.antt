@@ -55,7 +55,7 @@ depth-snoc n os o =
 
 -- ---- no depth exceeds the number of operations
 
-largest-at : (ds : List ℕ) (symbol : ℕ) → getD ds symbol 0 ≤ largest ds
+pub largest-at : (ds : List ℕ) (symbol : ℕ) → getD ds symbol 0 ≤ largest ds
 unfolding largest
 largest-at [] symbol = omega arith
 largest-at (d ∷ ds) zero = omega arith

@@ -5,7 +5,7 @@ use mathlib.Core.Path.{_≡_, refl, sym, ap, ap₂, subst, _∙_}
 use mathlib.Core.List.{List, [], _∷_, _++_, append-assoc, append-nil}
 use native.Mathlib.Omega.{arith}
 use native.Mathlib.Numerals.{add-one}
-use lib.ListN.{length, getD, set, take, drop, replicate, length-append, length-replicate, drop-of-length-le}
+use lib.ListN.{length, getD, set, take, drop, replicate, length-append, drop-of-length-le}
 use lib.Seq.{length-take-le, drop-cons, drop-at}
 use Rattle.limits.specs.Limits.{maxColumns, maxOperations, maxSymbols}
 use Rattle.term.specs.declared.Term.{Term}
@@ -13,7 +13,7 @@ use Rattle.layout_rules.specs.declared.Operation.{Operation}
 use Rattle.layout_rules.specs.declared.Output.{Output}
 use Rattle.board_rules.specs.Machine.{operationDepth}
 use Rattle.board_rules.specs.Table.{HoldsDepths}
-use Rattle.board_rules.proofs.DepthLaws.{depths-snoc, length-depths}
+use Rattle.board_rules.proofs.DepthLaws.{depths-snoc}
 use Rattle.board_rules.proofs.TableLaws.{depth-at, operands-fit, depths-appended}
 use Rattle.elimination_rules.specs.Rows.{Row}
 use Rattle.elimination_rows.specs.State.{noTerm}
@@ -23,12 +23,10 @@ use Rattle.sum_rules.specs.Placing.{placingJoinsOf}
 use Rattle.sum_rules.specs.SumDepth.{HasDepth, EachTerm}
 use Rattle.sum_rules.proofs.Sums.{length-permuted, each-permuted, each-term}
 use Rattle.sum_rules.proofs.TermOrder.{SameDepth, placed-same, in-order-same, placed-permuted, in-order-permuted}
+use Rattle.sum_rules.proofs.RowSums.{length-depths-of}
 use Rattle.sum_rules.proofs.Placing.{placing-sum}
 
 -- ---- the depths of the symbols so far
-
-length-depths-of : (n : ℕ) (os : List Operation) → length (depthsOf n os) ≡ n + length os
-length-depths-of n os = length-depths (replicate n 0) os ∙ ap (λ (k : ℕ). k + length os) (length-replicate n 0)
 
 -- a term's symbol is an input or one of so many operations
 abbrev pub Below : ℕ → Term → Type 0

@@ -19,7 +19,7 @@ use Rattle.elimination_rules.specs.Divisors.{Pair, divisorOf}
 use Rattle.elimination_rules.specs.Visit.{InRow, allInRow}
 use Rattle.elimination_rules.proofs.Tests.{by-test, clash}
 use Rattle.elimination_rules.proofs.RowOrder.{divisor-in-order}
-use Rattle.elimination_rules.proofs.Rank.{by-order}
+use Rattle.elimination_rules.proofs.Smaller.{by-order}
 use Rattle.kept_rules.specs.Kept.{pairsBefore, newPairs, newPairsFrom}
 use Rattle.elimination_masks.specs.Masks.{occurrencesIn, noneAmongFrom, earlierMask}
 use Rattle.elimination_masks.proofs.ColumnLaws.{earlier-before, earlier-in, earlier-behind}

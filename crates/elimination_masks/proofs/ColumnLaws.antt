@@ -20,7 +20,7 @@ use Rattle.elimination_rules.specs.Lookup.{Proper, ExponentsBelow, Signs, count
 use Rattle.elimination_rules.proofs.LookupSigns.{none-past}
 use Rattle.elimination_rules.proofs.LookupTaken.{taken-count}
 use Rattle.elimination_rules.proofs.Tests.{by-bool, and-left, and-right, and-both}
-use Rattle.elimination_rules.proofs.Rank.{by-order}
+use Rattle.elimination_rules.proofs.Smaller.{by-order}
 use Rattle.kept_rules.specs.Kept.{signsIn, countedAnewFrom, countedAnew, occursNowhere, occursInNone, isFirst}
 use Rattle.kept_rules.proofs.CountedAnew.{row-well-formed}
 use Rattle.bits.specs.Bits.{bitsOf}

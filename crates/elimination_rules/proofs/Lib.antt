@@ -1,4 +1,5 @@
 pub mod Tests
+pub mod Smaller
 pub mod Same
 pub mod RowOrder
 pub mod Taken

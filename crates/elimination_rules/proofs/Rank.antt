@@ -11,34 +11,17 @@ use native.Mathlib.Nat.{mul-le-mul-right}
 use native.Mathlib.Omega.{arith}
 use lib.Dec.{ltb, eqb}
 use lib.ListN.{getD}
-use borrow.Author.Tests.{eq-eqb, ne-eqb, le-ltb, ltb-true, ltb-false}
 use Rattle.elimination_rules.specs.declared.Divisor.{Divisor}
 use Rattle.elimination_rules.specs.Rows.{Row, WellFormed, EachRow}
 use Rattle.elimination_rules.specs.Divisors.{Pair, divisorOf}
 use Rattle.elimination_rules.specs.Elimination.{divisorDepth, smaller, before, shallower, allPairs, pick}
 use Rattle.elimination_rules.specs.Rank.{symbolRoom, exponentRoom, signKey, divisorKey, keyRoom, keyDivisor, divisorRank, lowerRank}
-use Rattle.elimination_rules.proofs.Tests.{by-bool}
 use Rattle.elimination_rules.proofs.Order.{DivisorWithin, divisor-within}
 use Rattle.elimination_rules.proofs.Pick.{pick-agrees}
-use Rattle.elimination_rules.proofs.Ties.{yes-smaller}
+use Rattle.elimination_rules.proofs.Smaller.{by-order, yes-smaller, no-smaller, smaller-equal}
 use Rattle.elimination_rules.proofs.PairScores.{pair-scores}
 
 -- ---- a number in front of another
-
-module _ (x y : ℕ) (otherwise : Bool) where
-  smaller-more : y < x → smaller x y otherwise ≡ false
-  smaller-more h = rw (le-ltb x y (omega arith), ne-eqb x y (omega arith))
-
-  smaller-equal : x ≡ y → smaller x y otherwise ≡ otherwise
-  smaller-equal h = rw (le-ltb x y (omega arith), eq-eqb x y h)
-
--- the three cases of two numbers
-pub by-order {ℓ} : {P : Type ℓ} (x y : ℕ) → (x < y → P) → (x ≡ y → P) → (y < x → P) → P
-by-order x y less equal more = by-bool (ltb x y)
-    (λ e. less (ltb-true x y e))
-    (λ e. by-bool (ltb y x)
-    (λ f. more (ltb-true y x f))
-    (λ f. equal (omega (arith, ltb-false x y e, ltb-false y x f))))
 
 -- x, and behind it y, which has room below size
 module _ (size x y x′ y′ : ℕ) (otherwise : Bool) (h : y < size) (h′ : y′ < size) where
@@ -55,13 +38,13 @@ module _ (size x y x′ y′ : ℕ) (otherwise : Bool) (h : y < size) (h′ : y�
   in-front = by-order x x′
       (λ l. yes-smaller whole whole′ otherwise (inl (omega (arith, next-multiple x x′ l))) ∙ sym (yes-smaller x x′ (smaller y y′ otherwise) (inl l)))
       (λ e. only-behind (ap (λ (z : ℕ). z * size) e) ∙ sym (smaller-equal x x′ (smaller y y′ otherwise) e))
-      (λ l. smaller-more whole whole′ otherwise (omega (arith, next-multiple x′ x l)) ∙ sym (smaller-more x x′ (smaller y y′ otherwise) l))
+      (λ l. no-smaller whole whole′ otherwise (omega (arith, next-multiple x′ x l)) (λ s. absurd (omega (arith, next-multiple x′ x l))) ∙ sym (no-smaller x x′ (smaller y y′ otherwise) (omega arith) (λ s. absurd (omega arith))))
     where
       only-behind : x * size ≡ x′ * size → smaller whole whole′ otherwise ≡ smaller y y′ otherwise
       only-behind e = by-order y y′
           (λ l. yes-smaller whole whole′ otherwise (inl (omega (arith, e))) ∙ sym (yes-smaller y y′ otherwise (inl l)))
           (λ f. smaller-equal whole whole′ otherwise (omega (arith, e)) ∙ sym (smaller-equal y y′ otherwise f))
-          (λ l. smaller-more whole whole′ otherwise (omega (arith, e)) ∙ sym (smaller-more y y′ otherwise l))
+          (λ l. no-smaller whole whole′ otherwise (omega (arith, e)) (λ s. absurd (omega (arith, e))) ∙ sym (no-smaller y y′ otherwise (omega arith) (λ s. absurd (omega arith))))
 
 test-alone : (x y : ℕ) → ltb x y ≡ smaller x y false
 test-alone x y = sym (ap (λ (b : Bool). ltb x y || b) (and-false (eqb x y)) ∙ or-false (ltb x y))

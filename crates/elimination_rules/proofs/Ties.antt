@@ -7,13 +7,14 @@ use mathlib.Core.Logic.{_⊎_, inl, inr, ⊎-elim, _↔_}
 use mathlib.Core.Bool.{Bool, true, false, not, _&&_, true≢false, false≢true}
 use mathlib.Core.List.{List, [], _∷_, List·Memᴰ, List·Memᴰ·cases-cons, List·Memᴰ·not-nil}
 use native.Mathlib.Omega.{arith}
-use lib.Dec.{eqb, ltb}
-use borrow.Author.Tests.{eqb-true, eq-eqb, ltb-true, ltb-false, lt-ltb, not-true}
+use lib.Dec.{ltb}
+use borrow.Author.Tests.{ltb-true, ltb-false, not-true}
 use Rattle.elimination_rules.specs.declared.Divisor.{Divisor}
 use Rattle.elimination_rules.specs.Rows.{Row}
 use Rattle.elimination_rules.specs.Divisors.{Pair, divisorOf, score}
-use Rattle.elimination_rules.specs.Elimination.{divisorDepth, symbolDepths, smaller, before, shallower, shallowestFirst, Scored, scored, better, bestFrom, allPairs, noPairs, bestOf, pick}
-use Rattle.elimination_rules.proofs.Tests.{by-bool, clash, and-left, and-right, and-both, or-left, or-right, or-cases, or-no-left}
+use Rattle.elimination_rules.specs.Elimination.{divisorDepth, symbolDepths, before, shallower, shallowestFirst, Scored, scored, better, bestFrom, allPairs, noPairs, bestOf, pick}
+use Rattle.elimination_rules.proofs.Tests.{by-bool, clash, and-left, and-right, and-both}
+use Rattle.elimination_rules.proofs.Smaller.{Smaller, smaller-as, as-smaller, smaller-self, smaller-transitive, smaller-total}
 use Rattle.elimination_rules.proofs.Order.{score-occurs}
 use Rattle.elimination_rules.proofs.Pick.{all-pairs, better-yes, better-no, NotWorse, best-is, pick-is}
 
@@ -129,48 +130,8 @@ module _ (first : Divisor → Divisor → Bool) (order : StrictTotal first) wher
 
 -- ---- the smallest a, then b, then ea, then eb, then plus before minus
 
--- in one of two pairs of numbers the first is smaller, or they are the same and what follows decides
-abbrev pub Smaller : ℕ → ℕ → Type 0 → Type 0
-Smaller x y Otherwise = (x < y) ⊎ ((x ≡ y) × Otherwise)
-
 abbrev pub Before : Divisor → Divisor → Type 0
 Before d e = Smaller (d .a) (e .a) (Smaller (d .b) (e .b) (Smaller (d .ea) (e .ea) (Smaller (d .eb) (e .eb) ((d .minus ≡ false) × (e .minus ≡ true)))))
-
-smaller-yes : (x y : ℕ) (b : Bool) → smaller x y b ≡ true → (x < y) ⊎ ((x ≡ y) × (b ≡ true))
-smaller-yes x y b h = ⊎-elim
-    (λ l. inl (ltb-true x y l))
-    (λ r. inr (eqb-true x y (and-left (eqb x y) b r), and-right (eqb x y) b r))
-    (or-cases (ltb x y) (eqb x y && b) h)
-
-pub yes-smaller : (x y : ℕ) (b : Bool) → (x < y) ⊎ ((x ≡ y) × (b ≡ true)) → smaller x y b ≡ true
-yes-smaller x y b (inl h) = or-left (ltb x y) (eqb x y && b) (lt-ltb x y h)
-yes-smaller x y b (inr h) = or-right (ltb x y) (eqb x y && b) (and-both (eqb x y) b (eq-eqb x y (h .0)) (h .1))
-
-smaller-self : (x : ℕ) (b : Bool) → b ≡ false → smaller x x b ≡ false
-smaller-self x b e = by-bool (smaller x x b) (λ h. ⊎-elim (λ l. absurd (omega arith)) (λ r. clash (r .1) e) (smaller-yes x x b h)) (λ h. h)
-
-smaller-transitive : (x y z : ℕ) (b c d : Bool) → (b ≡ true → c ≡ true → d ≡ true) → smaller x y b ≡ true → smaller y z c ≡ true → smaller x z d ≡ true
-smaller-transitive x y z b c d f h k = ⊎-elim
-    (λ l. ⊎-elim (λ m. yes-smaller x z d (inl (omega arith))) (λ m. yes-smaller x z d (inl (omega arith))) (smaller-yes y z c k))
-    (λ l. ⊎-elim (λ m. yes-smaller x z d (inl (omega arith))) (λ m. yes-smaller x z d (inr (l .0 ∙ m .0, f (l .1) (m .1)))) (smaller-yes y z c k))
-    (smaller-yes x y b h)
-
-smaller-total : {Q : Type 0} (x y : ℕ) (b c : Bool) → (b ≡ false → Q ⊎ (c ≡ true)) → smaller x y b ≡ false → ((x ≡ y) × Q) ⊎ (smaller y x c ≡ true)
-smaller-total x y b c f h = by-bool (eqb x y)
-    (λ e. ⊎-elim
-    (λ q. inl (eqb-true x y e, q))
-    (λ t. inr (yes-smaller y x c (inr (sym (eqb-true x y e), t))))
-    (f (by-bool b (λ t. clash (yes-smaller x y b (inr (eqb-true x y e, t))) h) (λ t. t))))
-    (λ e. inr (yes-smaller y x c (inl (above (ltb-false x y (or-no-left (ltb x y) (eqb x y && b) h)) (λ w. true≢false (sym (eq-eqb x y w) ∙ e))))))
-  where
-    above : {x y : ℕ} → y ≤ x → (x ≡ y → ⊥) → y < x
-    above l n = omega arith
-
-smaller-as : {Q : Type 0} (x y : ℕ) (b : Bool) → (b ≡ true → Q) → smaller x y b ≡ true → Smaller x y Q
-smaller-as x y b f h = ⊎-elim inl (λ r. inr (r .0, f (r .1))) (smaller-yes x y b h)
-
-as-smaller : {Q : Type 0} (x y : ℕ) (b : Bool) → (Q → b ≡ true) → Smaller x y Q → smaller x y b ≡ true
-as-smaller x y b f h = yes-smaller x y b (⊎-elim inl (λ r. inr (r .0, f (r .1))) h)
 
 pub before-is : (d e : Divisor) → (before d e ≡ true) ↔ Before d e
 before-is d e = (

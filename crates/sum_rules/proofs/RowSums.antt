@@ -1,12 +1,12 @@
 -- Document 01, "Row sums": the shallowest order sums a row two terms at a time, so that it takes (terms − 1) operations and gives the
 -- row's value; and no more joins than terms are made.
 -- Assumes nothing.
-use Prim.Native.Nat.{ℕ, zero, suc, _≤_, pred}
+use Prim.Native.Nat.{ℕ, zero, suc, _+_, _≤_, pred}
 use mathlib.Core.Path.{_≡_, refl, ap, subst}
 use mathlib.Core.List.{List, [], _∷_, List·Permᴰ, List·Permᴰ·swap, List·Permᴰ·trans, Permᴰ·refl}
 use native.Mathlib.Omega.{arith}
 use lib.IntN.{ℤ}
-use lib.ListN.{length, length-append}
+use lib.ListN.{length, replicate, length-append, length-replicate}
 use Rattle.term.specs.declared.Term.{Term}
 use Rattle.layout_rules.specs.declared.Operation.{Operation}
 use Rattle.layout_rules.specs.declared.Output.{Output}
@@ -19,7 +19,7 @@ use Rattle.sum_rules.specs.Joins.{joinedTerm, termOutput, zeroOutput}
 use Rattle.sum_rules.specs.Sums.{Summed, nothing, last, join, SummedRows, end, first-row}
 use Rattle.sum_rules.proofs.Sums.{length-permuted, each-permuted, summed-length}
 use Rattle.sum_rules.proofs.Values.{outputOf, summed-value}
-use Rattle.sum_rules.specs.Shallowest.{OperandOrder, firstOperand, secondOperand, joinOf, RowSum, depthsWith, rowInOrder, joinsOf, sumOf, sumOperations, sumOutputs}
+use Rattle.sum_rules.specs.Shallowest.{OperandOrder, firstOperand, secondOperand, joinOf, RowSum, depthsOf, depthsWith, rowInOrder, joinsOf, sumOf, sumOperations, sumOutputs}
 use Rattle.sum_rules.proofs.TermOrder.{in-order-permuted}
 
 -- ---- a row's terms in another order
@@ -38,6 +38,9 @@ summed-permuted : {next : ℕ} {q r : Row} {os : List Operation} {o : Output} �
 summed-permuted {q = q} p nothing = nothing-permuted q p
 summed-permuted {q = q} p (last t) = last-permuted t q p
 summed-permuted p (join t u others m n s) = join t u others (List·Permᴰ·trans p m) n s
+
+pub length-depths-of : (n : ℕ) (os : List Operation) → length (depthsOf n os) ≡ n + length os
+length-depths-of n os = omega (arith, length-depths (replicate n 0) os, length-replicate n zero)
 
 pub length-with : (ds : List ℕ) (o : Operation) → length (depthsWith ds o) ≡ suc (length ds)
 length-with ds o = omega (arith, length-append ds (operationDepth ds o ∷ []))

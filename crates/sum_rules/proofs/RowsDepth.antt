@@ -9,7 +9,7 @@ use lib.Pow.{pow-mono}
 use Rattle.layout_rules.specs.declared.Operation.{Operation}
 use Rattle.layout_rules.specs.declared.Output.{Output}
 use Rattle.board_rules.specs.Machine.{operationDepth, depths, largest}
-use Rattle.board_rules.proofs.DepthLaws.{depths-append, depths-keep, length-depths, largest-snoc}
+use Rattle.board_rules.proofs.DepthLaws.{depths-append, depths-keep, length-depths, largest-snoc, largest-at}
 use Rattle.elimination_rules.specs.Rows.{Row, EachRow}
 use Rattle.sum_rules.specs.Joins.{joinOperation, zeroOutput}
 use Rattle.sum_rules.specs.Sums.{Summed, nothing, last, join, SummedRows, end, first-row}
@@ -21,12 +21,6 @@ use Rattle.sum_rules.proofs.Powers.{exponents-in-order, powers-permuted
 use Rattle.sum_rules.proofs.RowDepth.{after-have-depth, after-powers, summed-depth, empty-depth, sum-depth-least}
 
 -- ---- the largest depth
-
-largest-at : (ds : List ℕ) (symbol : ℕ) → getD ds symbol 0 ≤ largest ds
-unfolding largest
-largest-at [] symbol = omega arith
-largest-at (d ∷ ds) zero = omega arith
-largest-at (d ∷ ds) (suc symbol) = omega (arith, largest-at ds symbol)
 
 largest-grows : (ds : List ℕ) (os : List Operation) → largest ds ≤ largest (depths ds os)
 unfolding depths
