@@ -14,6 +14,8 @@ pub mod End
 pub mod Weights
 pub mod Matrix
 pub mod Elimination
+pub mod NegatedRows
+pub mod Negated
 pub mod Marked
 pub mod LookupSigns
 pub mod LookupTaken

@@ -14,6 +14,14 @@ pub by-bool {ℓ} : {P : Type ℓ} (b : Bool) → (b ≡ true → P) → (b ≡ 
 by-bool true f g = f refl
 by-bool false f g = g refl
 
+-- two choices by one test, the one under a function
+pub same-choice {ℓ κ} : {A : Type ℓ} {B : Type κ} (f : A → B) (b c : Bool) (x y : A) (v w : B) → c ≡ b → v ≡ f x → w ≡ f y
+    → elim c [ true ↦ v | false ↦ w ] ≡ f (elim b [ true ↦ x | false ↦ y ])
+same-choice f true true x y v w e g h = g
+same-choice f false false x y v w e g h = h
+same-choice f true false x y v w e g h = absurd (false≢true e)
+same-choice f false true x y v w e g h = absurd (true≢false e)
+
 pub clash {ℓ} : {P : Type ℓ} {b : Bool} → b ≡ true → b ≡ false → P
 clash e f = absurd (true≢false (sym e ∙ f))
 

@@ -5,6 +5,7 @@ pub mod RowOrder
 pub mod Elimination
 pub mod Rank
 pub mod Steps
+pub mod Negated
 pub mod Weights
 pub mod Marked
 pub mod Lookup
