@@ -38,9 +38,10 @@ int main(void)
            zaatarloft_refusal_words(compiled.refusal), compiled.written);
 
     compiled = zaatarloft_compile(matrix, sizeof matrix, buffer, sizeof buffer);
-    printf("compile: refusal %u at %zu, written %zu, operations %u, plain %u, divisors %u, replacements %u, depth %u\n",
+    printf("compile: refusal %u at %zu, written %zu, operations %u, plain %u, divisors %u, replacements %u, depth %u, "
+           "negated %u\n",
            compiled.refusal, compiled.place, compiled.written, compiled.operations, compiled.plain, compiled.divisors,
-           compiled.replacements, compiled.depth);
+           compiled.replacements, compiled.depth, compiled.negated);
     print_records(buffer, compiled.written);
 
     struct zaatarloft_netlist netlist = zaatarloft_read(buffer, compiled.written);

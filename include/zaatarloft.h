@@ -10,7 +10,7 @@
  * What the caller owes: no pointer is NULL, also where a length is 0; each is aligned and valid for its length, which counts
  * bytes, samples or outputs; what is lent to be written overlaps nothing else that is lent to the same call; and nobody else
  * writes what is lent while the call runs.
- * A call keeps no pointer and uses no memory but its stack: a stack of 96 KB was enough for compile, and 48 KB for the others.
+ * A call keeps no pointer and uses no memory but its stack: a stack of 128 KB was enough for compile, and 48 KB for the others.
  */
 #ifndef ZAATARLOFT_H
 #define ZAATARLOFT_H
@@ -79,7 +79,7 @@ static inline const char *zaatarloft_refusal_words(uint8_t refusal)
 
 uint8_t zaatarloft_raw_compile(const uint8_t *matrix, size_t matrix_length, uint8_t *buffer, size_t buffer_length,
                                size_t *place, size_t *written, uint16_t *operations, uint16_t *plain, uint16_t *divisors,
-                               uint16_t *replacements, uint16_t *depth);
+                               uint16_t *replacements, uint16_t *depth, uint16_t *negated);
 
 uint8_t zaatarloft_raw_read(const uint8_t *netlist, size_t netlist_length, size_t *place, uint8_t *m, uint8_t *n,
                             uint16_t *operations, uint16_t *depth);
@@ -107,6 +107,7 @@ struct zaatarloft_compiled {
     uint16_t divisors;
     uint16_t replacements;
     uint16_t depth;
+    uint16_t negated; /* outputs with sign minus */
 };
 
 /* From a matrix record to its netlist, in the first `written` bytes of the buffer; the bytes behind them, and all where it
@@ -117,7 +118,7 @@ static inline struct zaatarloft_compiled zaatarloft_compile(const uint8_t *matri
     struct zaatarloft_compiled answer;
     answer.refusal = zaatarloft_raw_compile(matrix, matrix_length, buffer, buffer_length, &answer.place, &answer.written,
                                             &answer.operations, &answer.plain, &answer.divisors, &answer.replacements,
-                                            &answer.depth);
+                                            &answer.depth, &answer.negated);
     return answer;
 }
 

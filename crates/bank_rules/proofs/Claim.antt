@@ -178,6 +178,7 @@ module _ (matrixBytes : List ℕ) (w : MatrixWithinLimits matrixBytes) where
       operations-reported = ap (λ (a : CompileAnswer). a .operations) compiles ∙ sym (compiled .count);
       at-most = omega (arith, fewer);
       at-most-added = fewer;
+      negated-reported = ap (λ (a : CompileAnswer). a .negated) compiles;
       -- by search, which finds a weaker sentence too: that this one is not weaker is seen in Scores
       occurrences-overlap = search all-overlap;
       very-operations = refl;

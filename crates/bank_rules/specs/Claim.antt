@@ -22,7 +22,7 @@ use Rattle.layout_rules.specs.Records.{Netlist}
 use Rattle.board_rules.specs.Machine.{machine, entryAt, outputValue, times}
 use Rattle.board_rules.specs.Width.{Within, Samples}
 use Rattle.compile_rules.specs.declared.CompileAnswer.{CompileAnswer}
-use Rattle.compile_rules.specs.Compile.{operationsOf, outputsOf, withWidths, outputWithWidth, compiledBytes, compileAnswer, compileBuffer}
+use Rattle.compile_rules.specs.Compile.{operationsOf, outputsOf, withWidths, outputWithWidth, negatedOutputs, compiledBytes, compileAnswer, compileBuffer}
 use Rattle.netlist_rules.specs.Read.{accepted, readNetlist, readAnswer}
 use Rattle.netlist_rules.specs.Run.{runAnswer, runOutputs}
 use Rattle.netlist_rules.specs.Exact.{IsNetlistBytes}
@@ -107,6 +107,8 @@ pub record Claim (matrixBytes buffer : List ℕ) (samples outputs : List ℤ) (a
   -- "and at most the plain count minus one per divisor"; and once more without minus
   pub at-most : length (netlist .operations) ≤ answers .compile .plain - answers .compile .divisors
   pub at-most-added : length (netlist .operations) + answers .compile .divisors ≤ answers .compile .plain
+  -- "The negated outputs are the output records with sign minus", in those bytes
+  pub negated-reported : answers .compile .negated ≡ negatedOutputs (netlist .outputs)
   -- "In the remaining rows any two occurrences of one divisor overlap, whether it became an operation or not.": every divisor d, pair p
   -- among its occurrences in row i, pair q among those in row j
   pub occurrences-overlap : (d : Divisor) (i j : ℕ) (p q : Pair)

@@ -11,5 +11,5 @@ pub record MarkedTable : Type 0 where
   pub banks : MarkedBanks
   pub lines : MarkedListing
   pub printed : bankText threeMinusThreeRecord
-      ≡ ascii "inputs 2 outputs 1 operations 2 plain 3 divisors 1 replacements 2 depth 2\n2 = 0<<0 - 1<<0 width 17\n3 = 2<<0 - 2<<2 width 19\nrow 0 = -3<<0 width 19\n"
+      ≡ ascii "inputs 2 outputs 1 operations 2 plain 3 divisors 1 replacements 2 depth 2\n2 = 0<<0 - 1<<0 width 17\n3 = 2<<2 - 2<<0 width 19\nrow 0 = 3<<0 width 19\n"
   pub printed-refusal : bankText [] ≡ ascii "refused 1 at 0\n"

@@ -1,12 +1,13 @@
 -- Document 01, "Netlist and board machine": what a planned netlist gives the writing of it, and compile's answer.
 -- Assumes nothing.
-use Prim.Native.Nat.{ℕ, zero, suc, _+_, _<_}
+use Prim.Native.Nat.{ℕ, zero, suc, _+_, _≤_, _<_}
 use mathlib.Core.Path.{_≡_, refl, sym, ap, ap₂, _∙_, subst}
 use mathlib.Core.List.{List, _++_}
 use native.Mathlib.Omega.{arith}
 use native.Mathlib.Nat.{zero-add}
-use lib.ListN.{length, getD, take, drop}
-use lib.Seq.{length-take-le, split-at}
+use borrow.Author.Tests.{eq-eqb, ne-eqb}
+use lib.ListN.{length, getD, take, drop, drop-of-length-le}
+use lib.Seq.{length-take-le, split-at, drop-cons}
 use Rattle.limits.specs.Limits.{positions, sampleWidth, columnBits, maxCompiledWidth}
 use Rattle.limits.proofs.Numbers.{columns-in-bits}
 use Rattle.layout_rules.specs.declared.Operation.{Operation}
@@ -22,10 +23,10 @@ use Rattle.elimination_rules.specs.Rows.{Row, matrixRows, plainCount}
 use Rattle.elimination_rules.specs.Elimination.{Eliminated}
 use Rattle.elimination_rules.proofs.Order.{matrix-well-formed}
 use Rattle.compile_lists.specs.Lists.{noOperation, noOutput}
-use Rattle.compile_rules.specs.Compile.{operationsOf, outputsOf, netlistOf, compileRefused, eliminationOf, compiledNetlist, compiledBytes, compileAccepted, compileAnswer, compileBuffer}
+use Rattle.compile_rules.specs.Compile.{operationsOf, outputsOf, netlistOf, negatedOutputs, compileRefused, eliminationOf, compiledNetlist, compiledBytes, compileAccepted, compileAnswer, compileBuffer}
 use Rattle.compile_rules.specs.Compiled.{compiledLimits}
 use Rattle.compile_write.specs.Tables.{Writable, EarlierOutputs, recordedNetlist}
-use Rattle.compile_rules.proofs.Counts.{length-outputs, netlist-length}
+use Rattle.compile_rules.proofs.Counts.{length-outputs, negated-with-widths, netlist-length}
 use Rattle.compile_rules.proofs.Operands.{EachOperation, OperationsInRange, operations-in-range, EachOutput, OutputsInRange, outputs-in-range}
 use Rattle.compile_rules.proofs.Netlist.{Narrow, operation-at, output-at}
 use Rattle.compile_rules.proofs.Narrow.{narrow}
@@ -83,6 +84,21 @@ pub netlist-is : (bytes : List ℕ) → recordedNetlist sampleWidth (rows bytes)
 unfolding netlistOf
 netlist-is bytes = refl
 
+-- ---- the outputs with the sign minus, those from an index on
+
+module _ (os : List Output) (i : ℕ) where
+  pub negated-next : i < length os → getD os i noOutput .sign ≡ 1 → negatedOutputs (drop i os) ≡ suc (negatedOutputs (drop (suc i) os))
+  unfolding negatedOutputs
+  negated-next h e = ap negatedOutputs (drop-cons os i noOutput h) ∙ rw (eq-eqb _ 1 e, negatedOutputs) refl
+
+  pub other-next : i < length os → (getD os i noOutput .sign ≡ 1 → ⊥) → negatedOutputs (drop i os) ≡ negatedOutputs (drop (suc i) os)
+  unfolding negatedOutputs
+  other-next h e = ap negatedOutputs (drop-cons os i noOutput h) ∙ rw (ne-eqb _ 1 e, negatedOutputs) refl
+
+  pub negated-end : length os ≤ i → negatedOutputs (drop i os) ≡ 0
+  unfolding negatedOutputs
+  negated-end h = ap negatedOutputs (drop-of-length-le os {i = i} h)
+
 -- ---- compile's answer and buffer
 
 -- a matrix record that is declined
@@ -92,12 +108,14 @@ declined bytes buffer zero e h = absurd (h refl)
 declined bytes buffer (suc r) e h = (sym (answer-refused bytes r (length buffer) (sym e)), sym (buffer-refused bytes r buffer (sym e)))
 
 -- a netlist that is written
-pub accepted-is : (bytes : List ℕ) (size operations plain divisors replacements deep : ℕ)
+pub accepted-is : (bytes : List ℕ) (size operations plain divisors replacements deep negated : ℕ)
     → size ≡ length (compiledBytes bytes) → operations ≡ length (operationsOf (columns bytes) (eliminationOf bytes)) → plain ≡ plainCount (matrixRows positions (matrix bytes))
     → divisors ≡ length (eliminationOf bytes .divisors) → replacements ≡ eliminationOf bytes .replacements → deep ≡ depth (columns bytes) (operationsOf (columns bytes) (eliminationOf bytes))
-    → record { refusal = 0; place = 0; written = size; operations = operations; plain = plain; divisors = divisors; replacements = replacements; depth = deep } ≡ compileAccepted bytes
+    → negated ≡ negatedOutputs (outputsOf (columns bytes) (eliminationOf bytes))
+    → record { refusal = 0; place = 0; written = size; operations = operations; plain = plain; divisors = divisors; replacements = replacements; depth = deep; negated = negated } ≡ compileAccepted bytes
 unfolding netlistOf
-accepted-is bytes size operations plain divisors replacements deep a b c d f g = rw (a, b, c, d, f, g)
+accepted-is bytes size operations plain divisors replacements deep negated a b c d f g h =
+    rw (a, b, c, d, f, g, h, negated-with-widths sampleWidth (columns bytes) (operationsOf (columns bytes) (eliminationOf bytes)) (outputsOf (columns bytes) (eliminationOf bytes)))
 
 pub buffer-is : (bytes buffer : List ℕ) (os : List Operation) (outputs : List Output)
     → os ≡ operationsOf (columns bytes) (eliminationOf bytes) → outputs ≡ outputsOf (columns bytes) (eliminationOf bytes)

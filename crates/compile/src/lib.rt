@@ -1,12 +1,29 @@
 // Document 01, "Netlist and board machine": compile, from a matrix record to the netlist's bytes, as `compile_rules` has it. Rests on
-// `compile_plan` and `compile_write`.
+// `compile_plan`, `compile_write` and `compile_lists`.
+use compile_lists::outputs::Outputs;
 use compile_rules::CompileAnswer;
 use compile_write::write_netlist;
 use layout_records::places::HEAD_LENGTH;
 use layout_records::places::netlist_length;
 ghost use mathlib.Core.Path.{_≡_};
 ghost use lib.ListN.{length};
-ghost use Rattle.compile_rules.specs.Compile.{compileAnswer, compileBuffer};
+ghost use Rattle.compile_lists.specs.Lists.{outputsList};
+ghost use Rattle.compile_rules.specs.Compile.{negatedOutputs, compileAnswer, compileBuffer};
+
+// How many outputs have the sign minus.
+fn negated_count(outputs: Outputs) -> u16
+    ensures { λ r. ⌜ r ≡ negatedOutputs (outputsList outputs) ⌝ }
+{
+    let count = outputs.count();
+    let mut negated: u16 = 0;
+    for i in 0..count {
+        let o = outputs.output(i);
+        if o.sign == 1 {
+            negated += 1;
+        }
+    }
+    negated
+}
 
 // From a matrix record to its netlist, at the start of the lent buffer. Nothing is written before it is known that all of it fits.
 pub fn compile(matrix: &[u8], buffer: &mut [u8]) -> CompileAnswer
@@ -35,5 +52,6 @@ pub fn compile(matrix: &[u8], buffer: &mut [u8]) -> CompileAnswer
         divisors: plan.divisors as u16,
         replacements: plan.replacements as u16,
         depth,
+        negated: negated_count(outputs),
     }
 }

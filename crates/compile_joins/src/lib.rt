@@ -1,5 +1,6 @@
-// Document 01, "Operations and outputs of a matrix": the operation of a divisor, what two terms are joined to, and the output of a row's
-// last term, as `sum_rules` has them. Rests on `term`, `elimination_rules` and `layout_rules`.
+// Document 01, "Operations and outputs of a matrix" and "Row sums": the operation of a divisor, the order of two terms' operands, what the
+// two are joined to, and the output of a row's last term, as `sum_rules` has them. Rests on `term`, `elimination_rules` and
+// `layout_rules`.
 use elimination_rules::Divisor;
 use layout_rules::Operation;
 use layout_rules::Output;
@@ -8,6 +9,7 @@ ghost use mathlib.Core.Path.{_≡_};
 ghost use Prim.Native.Nat.{_<_};
 ghost use Rattle.limits.specs.Limits.{maxSymbols};
 ghost use Rattle.sum_rules.specs.Joins.{signField, divisorOperation, joinOperation, joinedTerm, termOutput, zeroOutput};
+ghost use Rattle.sum_rules.specs.Shallowest.{orderOfOperands, firstOperand, secondOperand};
 
 // 0 add or plus, 1 subtract or minus.
 fn sign_field(minus: bool) -> u8
@@ -28,6 +30,31 @@ pub fn divisor_operation(d: Divisor) -> Operation
         b: d.b,
         sb: d.eb,
         width: 0,
+    }
+}
+
+// Two terms that are joined, in the order of their operands.
+pub struct Operands {
+    pub first: Term,
+    pub second: Term,
+}
+
+impl Operands {
+    // A positive term goes before a negative one; two of one sign keep their order.
+    pub fn of(t: Term, u: Term) -> Operands
+        ensures { λ r. ⌜ r .first ≡ firstOperand orderOfOperands t u ⌝ }
+        ensures { λ r. ⌜ r .second ≡ secondOperand orderOfOperands t u ⌝ }
+    {
+        if t.negative() && !u.negative() {
+            return Operands {
+                first: u,
+                second: t,
+            };
+        }
+        Operands {
+            first: t,
+            second: u,
+        }
     }
 }
 

@@ -29,7 +29,7 @@ use Rattle.compile_rules.specs.Compile.{operationsOf, outputsOf, outputW
 use Rattle.compile_rules.specs.Compiled.{compiledLimits, AcceptedAnswer}
 use Rattle.compile_rules.specs.Limits.{WithinLimits}
 use Rattle.compile_rules.proofs.Limits.{rows-columns, accepted-within}
-use Rattle.compile_rules.proofs.Counts.{Stepped, operations-count, operations-fewer, netlist-length}
+use Rattle.compile_rules.proofs.Counts.{Stepped, operations-count, operations-fewer, negated-most, netlist-outputs, netlist-length}
 use Rattle.compile_rules.proofs.Values.{machine-times}
 use Rattle.compile_rules.proofs.Widths.{machine-with-widths}
 use Rattle.compile_rules.proofs.Netlist.{compiled-netlist}
@@ -109,6 +109,7 @@ module _ (bytes : List ℕ) (all : AreBytes bytes) (accepted : matrixRefusal byt
         plain = plain-most;
         written = netlist-length sampleWidth (rows bytes) n first e steps ∙ ap (λ (m : ℕ). netlistLength headLength (length (operationsOf n e)) m) compiled-rows;
         depth = depth-at-most n (operationsOf n e);
+        negated = omega (arith, negated-most (compiledNetlist bytes .outputs), netlist-outputs sampleWidth (rows bytes) n first e steps, compiled-rows);
       }
 
   pub compiled-operations : compileAccepted bytes .operations ≤ maxOperations

@@ -2,10 +2,13 @@
 -- Assumes nothing.
 use Prim.Native.Nat.{ℕ, suc, _+_, _≤_}
 use mathlib.Core.Path.{_≡_, refl, ap, _∙_}
+use mathlib.Core.Bool.{Bool}
 use mathlib.Core.List.{List, [], _∷_, map}
 use native.Mathlib.Omega.{arith}
+use lib.Dec.{eqb}
 use lib.ListN.{length, length-append, length-map}
 use Rattle.layout_rules.specs.declared.Operation.{Operation}
+use Rattle.layout_rules.specs.declared.Output.{Output}
 use Rattle.layout_rules.specs.Records.{headLength, netlistBytes}
 use Rattle.layout_rules.specs.Places.{netlistLength}
 use Rattle.layout_rules.proofs.Lengths.{length-netlist}
@@ -13,10 +16,11 @@ use Rattle.elimination_rules.specs.declared.Divisor.{Divisor}
 use Rattle.elimination_rules.specs.Rows.{Row, plainCount}
 use Rattle.elimination_rules.specs.Elimination.{Eliminated}
 use Rattle.elimination_rules.specs.Steps.{Steps, end, step}
+use Rattle.elimination_rules.proofs.Tests.{by-bool, same-choice}
 use Rattle.elimination_rules.proofs.Order.{length-rows-after}
 use Rattle.elimination_rules.proofs.Counts.{steps-operations, steps-twice}
 use Rattle.sum_rules.specs.Joins.{divisorOperation}
-use Rattle.compile_rules.specs.Compile.{rowOperations, operationsOf, outputsOf, withWidths, outputWithWidth, netlistOf}
+use Rattle.compile_rules.specs.Compile.{rowOperations, operationsOf, outputsOf, withWidths, outputWithWidth, netlistOf, negatedOutputs}
 use Rattle.sum_rules.proofs.Sums.{summed-rows-length, summed-rows-outputs}
 use Rattle.compile_rules.proofs.Remaining.{remaining-summed}
 
@@ -50,6 +54,21 @@ steps-rows {symbol} {rows} (step d h more) = steps-rows more ∙ length-rows-aft
 
 pub length-outputs : (n : ℕ) (rows : List Row) (e : Eliminated) → Stepped n rows e → length (outputsOf n e) ≡ length rows
 length-outputs n rows e s = summed-rows-outputs (remaining-summed n e) ∙ steps-rows s
+
+-- ---- negated outputs: at most one for each output, and widths leave signs as they are
+
+pub negated-most : (outputs : List Output) → negatedOutputs outputs ≤ length outputs
+unfolding negatedOutputs
+negated-most [] = omega arith
+negated-most (o ∷ outputs) = by-bool (eqb (o .sign) 1) (λ e. rw (e, negatedOutputs) (omega (arith, negated-most outputs))) (λ e. rw (e, negatedOutputs) (omega (arith, negated-most outputs)))
+
+pub negated-with-widths : (s n : ℕ) (os : List Operation) (outputs : List Output) → negatedOutputs (map (outputWithWidth s n os) outputs) ≡ negatedOutputs outputs
+unfolding negatedOutputs
+negated-with-widths s n os [] = refl
+negated-with-widths s n os (o ∷ outputs) =
+    let minus : Bool = eqb (o .sign) 1 in
+    let rest = negated-with-widths s n os outputs in
+    same-choice (λ (k : ℕ). k) minus minus (suc (negatedOutputs outputs)) (negatedOutputs outputs) _ _ refl (ap suc rest) rest
 
 -- ---- the netlist: widths add nothing
 

@@ -11,5 +11,7 @@ pub mod Weights
 pub mod Narrow
 pub mod Compiled
 pub mod NetlistDepth
+pub mod Signs
+pub mod Negated
 pub mod CompileTests
 pub mod Marked

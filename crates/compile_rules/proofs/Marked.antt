@@ -14,11 +14,11 @@ use Rattle.board_rules.specs.Width.{width}
 use Rattle.board_rules.proofs.Marked.{marked-widths}
 use Rattle.sum_rules.specs.Joins.{signField}
 use Rattle.sum_rules.specs.Shallowest.{sumOperations, sumOutputs}
-use Rattle.compile_rules.specs.Compile.{operationsOf, outputsOf, withWidths, netlistOf, compileAnswer}
+use Rattle.compile_rules.specs.Compile.{operationsOf, outputsOf, withWidths, netlistOf, negatedOutputs, compileAnswer}
 use Rattle.compile_rules.specs.Marked.{MarkedBanks}
 
 pub marked-banks : MarkedBanks
-unfolding xor flatMap matrixRows plainCount matrixElimination matrixRefusal matrix rowsFrom coefficientsFrom coefficientAt signedWord headPayload operationPayload outputPayload totalsPayload netlistBytes entryForm outputForm depth width signField sumOperations sumOutputs operationsOf outputsOf withWidths netlistOf compileAnswer
+unfolding xor flatMap matrixRows plainCount matrixElimination matrixRefusal matrix rowsFrom coefficientsFrom coefficientAt signedWord headPayload operationPayload outputPayload totalsPayload netlistBytes entryForm outputForm depth width signField sumOperations sumOutputs operationsOf outputsOf withWidths netlistOf negatedOutputs compileAnswer
 marked-banks = record {
   digits = marked-digits;
   elimination = marked-elimination;
@@ -32,6 +32,7 @@ marked-banks = record {
   compiled-sum = refl;
   operations-negated = refl;
   compiled-negated = refl;
+  one-negated = refl;
   compiled-eight = refl;
   output-eight = refl;
   depth-eight = refl;

@@ -1,9 +1,9 @@
 -- Document 01, "Row sums": after any sequence of steps, no way of joining the remaining rows' terms gives a row's output, or the netlist,
 -- a smaller depth than the netlist of the matrix has.
 -- Assumes nothing.
-use Prim.Native.Nat.{ℕ, zero, suc, _+_, _≤_, _<_}
+use Prim.Native.Nat.{ℕ, _+_, _≤_, _<_}
 use mathlib.Core.Path.{_≡_, refl, sym, subst}
-use mathlib.Core.List.{List, [], _∷_, _++_, map}
+use mathlib.Core.List.{List, _++_, map}
 use native.Mathlib.Omega.{arith}
 use lib.ListN.{length, getD, replicate}
 use Rattle.layout_rules.specs.declared.Operation.{Operation}
@@ -22,21 +22,13 @@ use Rattle.sum_rules.specs.Shallowest.{orderOfOperands}
 use Rattle.sum_rules.specs.SumDepth.{outputDepth, EachTerm}
 use Rattle.sum_rules.proofs.Sums.{symbols-below}
 use Rattle.sum_rules.proofs.RowsDepth.{each-row-shallowest, rows-largest}
-use Rattle.compile_rules.specs.Compile.{divisorDepths, rowOperations, operationsOf, outputsOf, outputWithWidth, netlistOf, eliminationOf, compiledNetlist}
+use Rattle.compile_rules.specs.Compile.{divisorDepths, rowOperations, operationsOf, outputsOf, netlistOf, eliminationOf, compiledNetlist}
 use Rattle.compile_rules.specs.Compiled.{NoneShallower}
 use Rattle.compile_rules.proofs.Remaining.{length-divisor-depths}
 use Rattle.compile_rules.proofs.Limits.{rows-columns}
 use Rattle.compile_rules.proofs.Counts.{Stepped}
-use Rattle.compile_rules.proofs.Widths.{depths-with-widths}
+use Rattle.compile_rules.proofs.Widths.{depths-with-widths, output-keeps}
 use Rattle.compile_rules.proofs.Compiled.{limits, steps}
-
--- ---- widths aside
-
-output-symbol : (s n : ℕ) (os : List Operation) (outputs : List Output) (i : ℕ)
-    → getD (map (outputWithWidth s n os) outputs) i zeroOutput .symbol ≡ getD outputs i zeroOutput .symbol
-output-symbol s n os [] i = refl
-output-symbol s n os (o ∷ outputs) zero = refl
-output-symbol s n os (o ∷ outputs) (suc i) = output-symbol s n os outputs i
 
 module _ (p n : ℕ) (rows : List Row) (e : Eliminated) (inputs : 1 ≤ n) (w : EachRow (WellFormed p n) rows) (stepped : Stepped n rows e) where
   abbrev made : List Operation
@@ -70,7 +62,7 @@ unfolding netlistOf
 none-shallower p s m n rows e inputs w stepped =
     let all : List Operation = operationsOf n e in
     record {
-      each-row = λ k i. rw (depths-with-widths s n all n all (replicate n 0), output-symbol s n all (outputsOf n e) i) (row-depth p n rows e inputs w stepped k i);
+      each-row = λ k i. rw (depths-with-widths s n all n all (replicate n 0), output-keeps (λ o. o .symbol) s n all (λ o. refl) (outputsOf n e) i) (row-depth p n rows e inputs w stepped k i);
       netlist = λ k. whole-depth p n rows e inputs w stepped k;
     }
 

@@ -1,12 +1,12 @@
 -- Document 01, "Netlist and board machine": each recorded width is the width of its operation's or output's value, and recording
 -- widths changes nothing else.
 -- Assumes nothing.
-use Prim.Native.Nat.{ℕ, suc, _+_, _≤_, _<_}
+use Prim.Native.Nat.{ℕ, zero, suc, _+_, _≤_, _<_}
 use mathlib.Core.Path.{_≡_, refl, sym, ap, _∙_}
 use mathlib.Core.List.{List, [], _∷_, _++_, map}
 use native.Mathlib.Omega.{arith}
 use lib.IntN.{ℤ}
-use lib.ListN.{length, replicate, length-append}
+use lib.ListN.{length, getD, replicate, length-append}
 use lib.Seq.{append-snoc}
 use Rattle.layout_rules.specs.declared.Operation.{Operation}
 use Rattle.layout_rules.specs.declared.Output.{Output}
@@ -14,6 +14,7 @@ use Rattle.board_rules.specs.Machine.{entryAt, operationValue, machine, outputV
 use Rattle.board_rules.specs.Width.{IsWidth, width}
 use Rattle.board_rules.proofs.FormLaws.{entry-form-keeps}
 use Rattle.board_rules.proofs.WidthLaws.{width-same, entry-width-is, output-width-is}
+use Rattle.sum_rules.specs.Joins.{zeroOutput}
 use Rattle.compile_rules.specs.Compile.{withWidth, withWidths, outputWithWidth}
 use Rattle.compile_rules.proofs.Operands.{EachOperation, EachOutput}
 
@@ -52,6 +53,13 @@ pub each-output-with-width : (s n : ℕ) (all : List Operation) (P Q : Output �
     → (os : List Output) → EachOutput P os → EachOutput Q (map (outputWithWidth s n all) os)
 each-output-with-width s n all P Q f [] h = tt
 each-output-with-width s n all P Q f (o ∷ os) h = (f o (h .0), each-output-with-width s n all P Q f os (h .1))
+
+-- what an output has besides its width stays; past the last one there is the zero output
+pub output-keeps : {A : Type 0} (f : Output → A) (s n : ℕ) (all : List Operation) → ((o : Output) → f (outputWithWidth s n all o) ≡ f o)
+    → (os : List Output) (i : ℕ) → f (getD (map (outputWithWidth s n all) os) i zeroOutput) ≡ f (getD os i zeroOutput)
+output-keeps f s n all e [] i = refl
+output-keeps f s n all e (o ∷ os) zero = e o
+output-keeps f s n all e (o ∷ os) (suc i) = output-keeps f s n all e os i
 
 -- ---- the recorded widths, on the operations as recorded
 

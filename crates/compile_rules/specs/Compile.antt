@@ -3,7 +3,7 @@
 use Prim.Native.Nat.{ℕ, zero, suc}
 use mathlib.Core.Bool.{true, false}
 use mathlib.Core.List.{List, [], _∷_, _++_, map}
-use lib.Dec.{ltb}
+use lib.Dec.{ltb, eqb}
 use lib.ListN.{length, drop}
 use Rattle.limits.specs.Limits.{positions, sampleWidth}
 use Rattle.elimination_rules.specs.Rows.{matrixRows, plainCount}
@@ -59,9 +59,14 @@ netlistOf s m n e =
 
 -- ---- compile's answer
 
+-- "The negated outputs are the output records with sign minus"
+unfoldable pub negatedOutputs : List Output → ℕ
+negatedOutputs [] = 0
+negatedOutputs (o ∷ os) = elim (eqb (o .sign) 1) [ true ↦ suc (negatedOutputs os) | false ↦ negatedOutputs os ]
+
 abbrev pub compileRefused : ℕ → ℕ → CompileAnswer
 compileRefused r place =
-    record { refusal = r; place = place; written = 0; operations = 0; plain = 0; divisors = 0; replacements = 0; depth = 0 }
+    record { refusal = r; place = place; written = 0; operations = 0; plain = 0; divisors = 0; replacements = 0; depth = 0; negated = 0 }
 
 abbrev pub eliminationOf : List ℕ → Eliminated
 eliminationOf bytes = matrixElimination positions (columns bytes) (matrix bytes)
@@ -83,6 +88,7 @@ compileAccepted bytes =
       divisors = length (eliminationOf bytes .divisors);
       replacements = eliminationOf bytes .replacements;
       depth = compiledNetlist bytes .totals .depth;
+      negated = negatedOutputs (compiledNetlist bytes .outputs);
     }
 
 -- 1 to 5, then 6: the output buffer, of so many bytes, is shorter than the netlist

@@ -1,5 +1,5 @@
--- Document 01, "Netlist and board machine": the limits that every compiled netlist is held to, what every accepted answer is, and that
--- no way of joining the rows' terms gives a smaller depth.
+-- Document 01, "Netlist and board machine": the limits that every compiled netlist is held to, what every accepted answer is, when
+-- two answers agree but for negated outputs, and that no way of joining the rows' terms gives a smaller depth.
 -- Assumes nothing.
 use Prim.Native.Nat.{ℕ, _+_, _*_, _≤_}
 use mathlib.Core.Path.{_≡_}
@@ -32,6 +32,15 @@ pub record AcceptedAnswer (m most : ℕ) (a : CompileAnswer) : Type 0 where
   pub plain : a .plain ≤ most
   pub written : a .written ≡ netlistLength headLength (a .operations) m
   pub depth : a .depth ≤ a .operations
+  pub negated : a .negated ≤ m
+
+-- two accepted answers agree in all counts but that of negated outputs
+pub record SameCost (a b : CompileAnswer) : Type 0 where
+  pub plain : a .plain ≡ b .plain
+  pub divisors : a .divisors ≡ b .divisors
+  pub replacements : a .replacements ≡ b .replacements
+  pub operations : a .operations ≡ b .operations
+  pub depth : a .depth ≡ b .depth
 
 -- "Of all ways of joining the same terms two at a time, none gives that row a smaller depth": behind the same divisors' operations, the
 -- remaining rows joined in any way at all, in whatever order and whichever operand is first, give no row's output, and no netlist, a

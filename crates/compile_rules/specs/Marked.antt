@@ -14,7 +14,7 @@ use Rattle.layout_rules.specs.declared.Operation.{Operation}
 use Rattle.layout_rules.specs.declared.Output.{Output}
 use Rattle.layout_rules.specs.Records.{Netlist}
 use Rattle.board_rules.specs.Marked.{MarkedWidths, sumOfTwo, negatedSample, sumOfEight, negatedSum}
-use Rattle.compile_rules.specs.Compile.{netlistOf, compiledBytes, compileAnswer}
+use Rattle.compile_rules.specs.Compile.{netlistOf, negatedOutputs, compiledBytes, compileAnswer}
 use Rattle.compile_rules.specs.declared.CompileAnswer.{CompileAnswer}
 
 -- the netlist of a matrix of m rows and n columns
@@ -25,23 +25,23 @@ netlistFor m n matrix = netlistOf sampleWidth m n (matrixElimination positions n
 abbrev pub threeMinusThreeRecord : List ℕ
 threeMinusThreeRecord = 0x0A ∷ 0x00 ∷ 0x01 ∷ 0x00 ∷ 0x01 ∷ 0x02 ∷ 0x03 ∷ 0x00 ∷ 0xFD ∷ 0xFF ∷ []
 
--- a head: 1 output, 2 inputs, 2 operations; 2 = 0<<0 - 1<<0 width 17; 3 = 2<<0 - 2<<2 width 19; row 0 = -3<<0 width 19; totals
+-- a head: 1 output, 2 inputs, 2 operations; 2 = 0<<0 - 1<<0 width 17; 3 = 2<<2 - 2<<0 width 19; row 0 = 3<<0 width 19; totals
 abbrev pub threeMinusThreeNetlist : List ℕ
 threeMinusThreeNetlist =
     0x08 ∷ 0x00 ∷ 0x02 ∷ 0x00 ∷ 0x01 ∷ 0x02 ∷ 0x02 ∷ 0x00
     ∷ 0x0C ∷ 0x00 ∷ 0x03 ∷ 0x00 ∷ 0x01 ∷ 0x00 ∷ 0x00 ∷ 0x00 ∷ 0x01 ∷ 0x00 ∷ 0x00 ∷ 17
-    ∷ 0x0C ∷ 0x00 ∷ 0x03 ∷ 0x00 ∷ 0x01 ∷ 0x02 ∷ 0x00 ∷ 0x00 ∷ 0x02 ∷ 0x00 ∷ 0x02 ∷ 19
-    ∷ 0x09 ∷ 0x00 ∷ 0x04 ∷ 0x00 ∷ 0x01 ∷ 0x03 ∷ 0x00 ∷ 0x00 ∷ 19
+    ∷ 0x0C ∷ 0x00 ∷ 0x03 ∷ 0x00 ∷ 0x01 ∷ 0x02 ∷ 0x00 ∷ 0x02 ∷ 0x02 ∷ 0x00 ∷ 0x00 ∷ 19
+    ∷ 0x09 ∷ 0x00 ∷ 0x04 ∷ 0x00 ∷ 0x00 ∷ 0x03 ∷ 0x00 ∷ 0x00 ∷ 19
     ∷ 0x08 ∷ 0x00 ∷ 0x05 ∷ 0x00 ∷ 0x02 ∷ 0x00 ∷ 0x02 ∷ 0x00
     ∷ []
 
--- operations 2 plain 3 divisors 1 replacements 2 depth 2
+-- operations 2 plain 3 divisors 1 replacements 2 depth 2, no output minus
 abbrev pub threeMinusThreeAnswer : CompileAnswer
 threeMinusThreeAnswer =
-    record { refusal = 0; place = 0; written = 49; operations = 2; plain = 3; divisors = 1; replacements = 2; depth = 2 }
+    record { refusal = 0; place = 0; written = 49; operations = 2; plain = 3; divisors = 1; replacements = 2; depth = 2; negated = 0 }
 
--- row −3, 5, 7, −1: no divisor, seven terms; 4 = 0<<0 - 0<<2 width 18; 5 = 1<<0 + 1<<2 width 19; 6 = 2<<0 - 2<<3 width 19;
--- 7 = 3<<0 - 4<<0 width 18; 8 = 5<<0 - 6<<0 width 20; 9 = 7<<0 - 8<<0 width 20; row 0 = -9<<0 width 20
+-- row −3, 5, 7, −1: no divisor, seven terms; 4 = 0<<0 - 0<<2 width 18; 5 = 1<<0 + 1<<2 width 19; 6 = 2<<3 - 2<<0 width 19;
+-- 7 = 4<<0 - 3<<0 width 19; 8 = 5<<0 + 6<<0 width 20; 9 = 7<<0 + 8<<0 width 20; row 0 = 9<<0 width 20
 abbrev pub sevenTerms : List (List ℤ)
 sevenTerms = (negsuc 2 ∷ pos 5 ∷ pos 7 ∷ negsuc 0 ∷ []) ∷ []
 
@@ -49,14 +49,14 @@ abbrev pub sixJoins : List Operation
 sixJoins =
     record { sign = 1; a = 0; sa = 0; b = 0; sb = 2; width = 18 }
     ∷ record { sign = 0; a = 1; sa = 0; b = 1; sb = 2; width = 19 }
-    ∷ record { sign = 1; a = 2; sa = 0; b = 2; sb = 3; width = 19 }
-    ∷ record { sign = 1; a = 3; sa = 0; b = 4; sb = 0; width = 18 }
-    ∷ record { sign = 1; a = 5; sa = 0; b = 6; sb = 0; width = 20 }
-    ∷ record { sign = 1; a = 7; sa = 0; b = 8; sb = 0; width = 20 }
+    ∷ record { sign = 1; a = 2; sa = 3; b = 2; sb = 0; width = 19 }
+    ∷ record { sign = 1; a = 4; sa = 0; b = 3; sb = 0; width = 19 }
+    ∷ record { sign = 0; a = 5; sa = 0; b = 6; sb = 0; width = 20 }
+    ∷ record { sign = 0; a = 7; sa = 0; b = 8; sb = 0; width = 20 }
     ∷ []
 
-abbrev pub negatedJoin : Output
-negatedJoin = record { sign = 1; symbol = 9; shift = 0; width = 20 }
+abbrev pub lastJoin : Output
+lastJoin = record { sign = 0; symbol = 9; shift = 0; width = 20 }
 
 -- rows 1 1 1 1 1, 1 1 1 0 0: 5 = 0<<0 + 1<<0 width 17; 6 = 2<<0 + 5<<0 width 18; 7 = 3<<0 + 4<<0 width 17; 8 = 7<<0 + 6<<0 width 19
 abbrev pub fiveAndThree : List (List ℤ)
@@ -91,12 +91,13 @@ pub record MarkedBanks : Type 0 where
   pub compiled-sum : netlistFor 1 2 ((pos 1 ∷ pos 1 ∷ []) ∷ []) .operations ≡ sumOfTwo
   pub operations-negated : netlistFor 1 1 ((negsuc 0 ∷ []) ∷ []) .operations ≡ []
   pub compiled-negated : netlistFor 1 1 ((negsuc 0 ∷ []) ∷ []) .outputs ≡ negatedSample ∷ []
+  pub one-negated : negatedOutputs (netlistFor 1 1 ((negsuc 0 ∷ []) ∷ []) .outputs) ≡ 1
   pub compiled-eight : netlistFor 1 8 (replicate 8 (negsuc 32767) ∷ []) .operations ≡ sumOfEight
   pub output-eight : netlistFor 1 8 (replicate 8 (negsuc 32767) ∷ []) .outputs ≡ negatedSum ∷ []
   pub depth-eight : netlistFor 1 8 (replicate 8 (negsuc 32767) ∷ []) .totals .depth ≡ 3
-  -- row −3, 5, 7, −1: among equal depths the symbol decides, then the exponent; depth 3
+  -- row −3, 5, 7, −1: among equal depths the symbol decides, then the exponent; of a positive and a negative term the positive one is the first operand; depth 3
   pub compiled-joins : netlistFor 1 4 sevenTerms .operations ≡ sixJoins
-  pub output-joins : netlistFor 1 4 sevenTerms .outputs ≡ negatedJoin ∷ []
+  pub output-joins : netlistFor 1 4 sevenTerms .outputs ≡ lastJoin ∷ []
   pub depth-joins : netlistFor 1 4 sevenTerms .totals .depth ≡ 3
   -- rows 1 1 1 1 1, 1 1 1 0 0: 7, of depth 1, comes before 6, of depth 2
   pub compiled-shallower : netlistFor 2 5 fiveAndThree .operations ≡ shallowerFirst

@@ -1,5 +1,5 @@
 // Document 01, "Netlist and board machine": the netlist of a matrix and what compile answers. Rests on `limits`,
-// `elimination_rules`, `layout_rules` and `board_rules`; the laws of the netlist stand in proofs/.
+// `elimination_rules`, `layout_rules`, `board_rules` and `sum_rules`; the laws of the netlist stand in proofs/.
 ghost use mathlib.Core.Path.{_≡_};
 ghost use Rattle.compile_rules.specs.Compile.{compileRefused};
 
@@ -13,6 +13,7 @@ pub struct CompileAnswer {
     pub divisors: u16,
     pub replacements: u16,
     pub depth: u16,
+    pub negated: u16, // outputs with sign minus
 }
 
 impl CompileAnswer {
@@ -29,6 +30,7 @@ impl CompileAnswer {
             divisors: 0,
             replacements: 0,
             depth: 0,
+            negated: 0,
         }
     }
 }

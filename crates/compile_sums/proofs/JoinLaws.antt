@@ -18,12 +18,12 @@ use Rattle.board_rules.proofs.TableLaws.{depth-at, operands-fit, depths-appende
 use Rattle.elimination_rules.specs.Rows.{Row}
 use Rattle.elimination_rows.specs.State.{noTerm}
 use Rattle.sum_rules.specs.Joins.{joinedTerm, termOutput, zeroOutput}
-use Rattle.sum_rules.specs.Shallowest.{orderOfOperands, firstOperand, joinOf, RowSum, depthsOf, depthsWith, placed, rowInOrder, sumOf}
+use Rattle.sum_rules.specs.Shallowest.{orderOfOperands, firstOperand, secondOperand, joinOf, RowSum, depthsOf, depthsWith, placed, rowInOrder, sumOf}
 use Rattle.sum_rules.specs.Placing.{placingJoinsOf}
 use Rattle.sum_rules.specs.SumDepth.{HasDepth, EachTerm}
 use Rattle.sum_rules.proofs.Sums.{length-permuted, each-permuted, each-term}
 use Rattle.sum_rules.proofs.TermOrder.{SameDepth, placed-same, in-order-same, placed-permuted, in-order-permuted}
-use Rattle.sum_rules.proofs.RowSums.{length-depths-of}
+use Rattle.sum_rules.proofs.RowSums.{length-depths-of, operands-permuted}
 use Rattle.sum_rules.proofs.Placing.{placing-sum}
 
 -- ---- the depths of the symbols so far
@@ -117,19 +117,20 @@ module _ {n : ℕ} {made : List Operation} {first : Row} {os : List Operation} {
     abbrev operand : Term
     operand = firstOperand orderOfOperands t u
 
-    left-below : EachTerm (Below (n + length os)) (t ∷ u ∷ others)
-    left-below = subst (EachTerm (Below (n + length os))) e (b .below)
+    -- the terms that are left, the two that are joined in the order of their operands
+    left-below : EachTerm (Below (n + length os)) (operand ∷ secondOperand orderOfOperands t u ∷ others)
+    left-below = each-permuted (Below (n + length os)) (operands-permuted orderOfOperands t u others) (subst (EachTerm (Below (n + length os))) e (b .below))
 
     pub room : length os < maxOperations
     room = omega (arith, ap (length {A = Term}) e, b .counted)
 
-    pub operands-within : (t .symbol < maxSymbols) × (u .symbol < maxSymbols)
+    pub operands-within : (joinOf orderOfOperands t u .a < maxSymbols) × (joinOf orderOfOperands t u .b < maxSymbols)
     operands-within = (omega (arith, room, left-below .0), omega (arith, room, left-below .1 .0))
 
     pub others-within : EachTerm (Below maxSymbols) others
     others-within = each-below (n + length os) maxSymbols others (omega (arith, room)) (left-below .1 .1)
 
-    pub operand-depths : (getD table (t .symbol) 0 < 65535) × (getD table (u .symbol) 0 < 65535)
+    pub operand-depths : (getD table (joinOf orderOfOperands t u .a) 0 < 65535) × (getD table (joinOf orderOfOperands t u .b) 0 < 65535)
     operand-depths = operands-fit n os table (b .depths-held) o (left-below .0) (left-below .1 .0) (omega (arith, room))
 
     abbrev ds : List ℕ

@@ -1,5 +1,6 @@
 // Document 01, "Row sums": the operations and outputs of the remaining rows, in the shallowest order, as `sum_rules` has them. Rests on
 // `compile_joins`, `compile_order`, `compile_lists` and `board_tables`.
+use compile_joins::Operands;
 use compile_joins::join_operation;
 use compile_joins::joined_term;
 use compile_joins::term_output;
@@ -51,8 +52,9 @@ fn sum_row(operations: Operations, row: Row, n: usize, depths: &mut [u16; MAX_SY
     let mut terms = in_order(row, depths);
     let mut at = MAX_TERMS - row.count();
     while at + 1 < MAX_TERMS {
-        let first = terms[at];
-        let o = join_operation(first, terms[at + 1]);
+        let operands = Operands::of(terms[at], terms[at + 1]);
+        let first = operands.first;
+        let o = join_operation(first, operands.second);
         let symbol = n + count;
         depths[symbol] = board_tables::operation_depth(depths, o);
         list[count] = o;

@@ -7,4 +7,4 @@ use Rattle.listing_rules.specs.Marked.{MarkedListing}
 
 pub marked : MarkedListing
 unfolding decimal number countsLine operationLine valueText lines
-marked = record { row-3-minus-3 = refl; addition = refl; plus = refl; zero = refl; refused = refl; longest = refl }
+marked = record { row-3-minus-3 = refl; addition = refl; minus = refl; zero = refl; refused = refl; longest = refl }

@@ -47,7 +47,7 @@ length-with ds o = omega (arith, length-append ds (operationDepth ds o ∷ []))
 
 module _ (order : OperandOrder) where
   -- either term may be the first operand
-  operands-permuted : (t u : Term) (r : Row) → List·Permᴰ (t ∷ u ∷ r) (firstOperand order t u ∷ secondOperand order t u ∷ r)
+  pub operands-permuted : (t u : Term) (r : Row) → List·Permᴰ (t ∷ u ∷ r) (firstOperand order t u ∷ secondOperand order t u ∷ r)
   operands-permuted t u r = by-bool (order t u) (λ e. rw (e, firstOperand, secondOperand) (List·Permᴰ·swap refl refl)) (λ e. rw (e, firstOperand, secondOperand) (Permᴰ·refl (t ∷ u ∷ r)))
 
   -- what a join leaves

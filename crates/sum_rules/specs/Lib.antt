@@ -2,4 +2,5 @@ pub mod Joins
 pub mod Sums
 pub mod Shallowest
 pub mod SumDepth
+pub mod Signs
 pub mod Placing

@@ -33,7 +33,8 @@ fn write_answer(answer: CompileAnswer) {
     write_number(answer.plain as u64);
     write_number(answer.divisors as u64);
     write_number(answer.replacements as u64);
-    io::print_decimal(STDOUT_FILENO, answer.depth as u64);
+    write_number(answer.depth as u64);
+    io::print_decimal(STDOUT_FILENO, answer.negated as u64);
     io::write_all(STDOUT_FILENO, b"\n");
 }
 

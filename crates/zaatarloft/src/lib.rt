@@ -23,8 +23,9 @@ pub extern "C" fn zaatarloft_raw_compile(
     divisors: &mut u16,
     replacements: &mut u16,
     depth: &mut u16,
+    negated: &mut u16,
 ) -> u8
-    ensures { λ r. ⌜ record { refusal = r; place = now (place .exit); written = now (written .exit); operations = now (operations .exit); plain = now (plain .exit); divisors = now (divisors .exit); replacements = now (replacements .exit); depth = now (depth .exit) } ≡ compileAnswer (now (matrix .entry)) (length (now (buffer .entry))) ⌝ }
+    ensures { λ r. ⌜ record { refusal = r; place = now (place .exit); written = now (written .exit); operations = now (operations .exit); plain = now (plain .exit); divisors = now (divisors .exit); replacements = now (replacements .exit); depth = now (depth .exit); negated = now (negated .exit) } ≡ compileAnswer (now (matrix .entry)) (length (now (buffer .entry))) ⌝ }
     ensures { λ _. ⌜ now (buffer .exit) ≡ compileBuffer (now (matrix .entry)) (now (buffer .entry)) ⌝ }
 {
     let compiled = compile::compile(matrix, buffer);
@@ -35,6 +36,7 @@ pub extern "C" fn zaatarloft_raw_compile(
     *divisors = compiled.divisors;
     *replacements = compiled.replacements;
     *depth = compiled.depth;
+    *negated = compiled.negated;
     compiled.refusal
 }
 

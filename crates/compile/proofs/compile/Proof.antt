@@ -15,7 +15,7 @@ use Rattle.layout_rules.proofs.LittleEndian.{AreBytes}
 use Rattle.layout_rules.proofs.MatrixRefusal.{accepted-matrix}
 use Rattle.board_rules.specs.Machine.{depth}
 use Rattle.compile_lists.specs.Lists.{operationsList, outputsList}
-use Rattle.compile_rules.specs.Compile.{operationsOf, eliminationOf, compiledBytes}
+use Rattle.compile_rules.specs.Compile.{operationsOf, negatedOutputs, eliminationOf, compiledBytes}
 use Rattle.compile_rules.specs.Compiled.{compiledLimits}
 use Rattle.compile_write.specs.Tables.{Writable, EarlierOutputs}
 use Rattle.compile_rules.proofs.Compiled.{plain-most, answer-short, answer-accepted, buffer-short, buffer-accepted}
@@ -137,20 +137,24 @@ cast-t21 c =
     let p = plan (c .before .before .before .before .before .before .before .before .before .before) in
     omega (arith, p .plan .ensures .replacements, replacements-most (bytes p) (all p) (accepted p))
 
+negated-count-requires : tie.Need-negated-count-requires
+negated-count-requires c κs = search needs
+
 same-length : tie.Need-same-length
 same-length c = search needs
 
 returns-3 : tie.Need-returns-3
 returns-3 c =
-    let w = c .before .before .before .before .before in
+    let w = c .before .before .before .before .before .before in
     let fits = w .before .before .before .before in
     let g = fits .before in
     let p = plan g in
     let b = bytes p in
     let buffer = known p .before .args .buffer .now in
     let room : length (compiledBytes b) ≤ length buffer = omega (arith, is-size g, fits .if2 .left) in (
-      accepted-is b _ _ _ _ _ _ (is-size g) (g .before .before .count .ensures ∙ ap (length {A = Operation}) (p .plan .ensures .operations)) (p .plan .ensures .plain) (p .plan .ensures .divisors)
+      accepted-is b _ _ _ _ _ _ _ (is-size g) (g .before .before .count .ensures ∙ ap (length {A = Operation}) (p .plan .ensures .operations)) (p .plan .ensures .plain) (p .plan .ensures .divisors)
           (p .plan .ensures .replacements) (w .write-netlist .ensures .0 ∙ ap (depth (columns b)) (p .plan .ensures .operations))
+          (c .negated-count .ensures ∙ ap negatedOutputs (p .plan .ensures .outputs))
           ∙ sym (answer-accepted b (length buffer) (accepted p) room),
       w .write-netlist .ensures .1 ∙ buffer-is b buffer (os p) (outputs p) (p .plan .ensures .operations) (p .plan .ensures .outputs) ∙ sym (buffer-accepted b buffer (accepted p) room),
     )
@@ -175,5 +179,6 @@ compile-spec =
     cast-t19
     cast-t20
     cast-t21
+    negated-count-requires
     same-length
     returns-3)

@@ -14,7 +14,7 @@ use Rattle.elimination_rows.specs.State.{rowTerms, noTerm}
 use Rattle.elimination_rows.proofs.Filled.{filled-more, front-same}
 use Rattle.compile_lists.specs.Lists.{operationsList}
 use Rattle.sum_rules.specs.Joins.{joinOperation, joinedTerm}
-use Rattle.sum_rules.specs.Shallowest.{orderOfOperands, depthsOf, placed, rowInOrder, sumOf}
+use Rattle.sum_rules.specs.Shallowest.{orderOfOperands, firstOperand, joinOf, depthsOf, placed, rowInOrder, sumOf}
 use Rattle.sum_rules.specs.Placing.{placingJoinsOf}
 use Rattle.sum_rules.specs.SumDepth.{EachTerm}
 use Rattle.sum_rules.proofs.Sums.{length-permuted}
@@ -97,20 +97,23 @@ loop-holds c =
 add-loop : tie.Need-add-loop Inv-loop μ-loop
 add-loop c = omega arith
 
-mul-first : tie.Need-mul-first Inv-loop μ-loop
-mul-first c = omega arith
+mul-of : tie.Need-mul-of Inv-loop μ-loop
+mul-of c = omega arith
 
-array-copy-out-first : tie.Need-array-copy-out-first Inv-loop μ-loop
-array-copy-out-first c = omega arith
+array-copy-out-of : tie.Need-array-copy-out-of Inv-loop μ-loop
+array-copy-out-of c = omega arith
 
-add-join-operation : tie.Need-add-join-operation Inv-loop μ-loop
-add-join-operation c = omega arith
+add-of : tie.Need-add-of Inv-loop μ-loop
+add-of c = omega arith
 
-mul-join-operation : tie.Need-mul-join-operation Inv-loop μ-loop
-mul-join-operation c = omega arith
+mul-of-2 : tie.Need-mul-of-2 Inv-loop μ-loop
+mul-of-2 c = omega arith
 
-array-copy-out-join-operation : tie.Need-array-copy-out-join-operation Inv-loop μ-loop
-array-copy-out-join-operation c = omega arith
+array-copy-out-of-2 : tie.Need-array-copy-out-of-2 Inv-loop μ-loop
+array-copy-out-of-2 c = omega arith
+
+of-requires : tie.Need-of-requires Inv-loop μ-loop
+of-requires c κs = search needs
 
 join-operation-requires : tie.Need-join-operation-requires Inv-loop μ-loop
 join-operation-requires c κs = search needs
@@ -153,48 +156,62 @@ module _ (c : tie.In-loop Inv-loop μ-loop) where
   count-is : here .loop .count ≡ length os
   count-is = omega (arith, length-take (here .loop .count) (here .loop .list), here .loop .inv .2, here .loop .inv .1)
 
-  within : (t .symbol < maxSymbols) × (u .symbol < maxSymbols)
+  within : (joinOf orderOfOperands t u .a < maxSymbols) × (joinOf orderOfOperands t u .b < maxSymbols)
   within = operands-within (here .loop .inv .4) columns-few (few (here .before)) t u others two
 
-  fit : (getD (here .loop .depths) (t .symbol) 0 < 65535) × (getD (here .loop .depths) (u .symbol) 0 < 65535)
+  fit : (getD (here .loop .depths) (joinOf orderOfOperands t u .a) 0 < 65535) × (getD (here .loop .depths) (joinOf orderOfOperands t u .b) 0 < 65535)
   fit = operand-depths (here .loop .inv .4) columns-few (few (here .before)) t u others two
 
   symbol-within : given .args .n + here .loop .count < maxSymbols
   symbol-within = omega (arith, made-few, count-is, columns-few)
 
+-- the operation of the join, and its first operand
+module _ (c : tie.After-join-operation Inv-loop μ-loop) where
+  abbrev join : tie.In-loop Inv-loop μ-loop
+  join = c .before .before .before .before .before
+
+  abbrev operand : Term
+  operand = firstOperand orderOfOperands (t join) (u join)
+
+  operand-is : c .before .before .of .result .first ≡ operand
+  operand-is = c .before .before .of .ensures .0
+
+  operation-is : c .join-operation .result ≡ joinOf orderOfOperands (t join) (u join)
+  operation-is = c .join-operation .ensures ∙ ap₂ joinOperation operand-is (c .before .before .of .ensures .1)
+
 add-symbol : tie.Need-add-symbol Inv-loop μ-loop
-add-symbol c = omega (arith, symbol-within (c .before .before .before))
+add-symbol c = omega (arith, symbol-within (join c))
 
 operation-depth-requires : tie.Need-operation-depth-requires Inv-loop μ-loop
-operation-depth-requires c κs = let h = c .before .before .before .before in rw (c .before .join-operation .ensures) (within h, fit h)
+operation-depth-requires c κs = let h = join (c .before) in rw (operation-is (c .before)) (within h, fit h)
 
 mul-depths : tie.Need-mul-depths Inv-loop μ-loop
-mul-depths c = omega (arith, symbol-within (c .before .before .before .before .before))
+mul-depths c = omega (arith, symbol-within (join (c .before .before)))
 
 element-write-depths : tie.Need-element-write-depths Inv-loop μ-loop
-element-write-depths c = omega (arith, symbol-within (c .before .before .before .before .before))
+element-write-depths c = omega (arith, symbol-within (join (c .before .before)))
 
 mul-list : tie.Need-mul-list Inv-loop μ-loop
-mul-list c = let h = c .before .before .before .before .before in omega (arith, made-few h, count-is h)
+mul-list c = let h = join (c .before .before) in omega (arith, made-few h, count-is h)
 
 array-set-from-list : tie.Need-array-set-from-list Inv-loop μ-loop
-array-set-from-list c = let h = c .before .before .before .before .before in omega (arith, made-few h, count-is h)
+array-set-from-list c = let h = join (c .before .before) in omega (arith, made-few h, count-is h)
 
 add-count : tie.Need-add-count Inv-loop μ-loop
-add-count c = let h = c .before .before .before .before .before in omega (arith, made-few h, count-is h)
+add-count c = let h = join (c .before .before) in omega (arith, made-few h, count-is h)
 
 add-at : tie.Need-add-at Inv-loop μ-loop
 add-at c = omega arith
 
 cast-joined-term : tie.Need-cast-joined-term Inv-loop μ-loop
-cast-joined-term c = omega (arith, symbol-within (c .before .before .before .before .before))
+cast-joined-term c = omega (arith, symbol-within (join (c .before .before)))
 
 joined-term-requires : tie.Need-joined-term-requires Inv-loop μ-loop
-joined-term-requires c κs = symbol-within (c .before .before .before .before .before)
+joined-term-requires c κs = symbol-within (join (c .before .before))
 
 place-requires : tie.Need-place-requires Inv-loop μ-loop
 place-requires c κs =
-    let h = c .before .before .before .before .before .before .before in
+    let h = join (c .before .before .before .before) in
     let there : here h .loop .at + 1 < maxTerms = omega (arith, h .loop-test .taken) in
     rw (c .before .joined-term .ensures) ((there, symbol-within h), others-within (here h .loop .inv .4) (columns-few h) (few (here h .before)) (t h) (u h) (others h) (two h))
 
@@ -206,20 +223,20 @@ loop-again c =
     let joined = c .before .before in
     let deep = joined .before in
     let o = deep .before .before in
-    let h = o .before .before .before in
+    let h = join o in
     let L = here h in
     let n = given h .args .n in
     let list = L .loop .list in
     let count = L .loop .count in
     let symbol : n + count ≡ n + length (os h) = ap (λ (k : ℕ). n + k) (count-is h) in
-    let tableAfter : List ℕ = set (L .loop .depths) (n + length (os h)) (operationDepth (L .loop .depths) (joinOperation (t h) (u h))) in
+    let tableAfter : List ℕ = set (L .loop .depths) (n + length (os h)) (operationDepth (L .loop .depths) (joinOf orderOfOperands (t h) (u h))) in
     let table : set (L .loop .depths) (n + count) (deep .operation-depth .result) ≡ tableAfter =
-    ap₂ (λ (k d : ℕ). set (L .loop .depths) k d) symbol (deep .operation-depth .ensures ∙ ap (operationDepth (L .loop .depths)) (o .join-operation .ensures)) in
-    let new : joined .joined-term .result ≡ joinedTerm (n + length (os h)) (t h) = joined .joined-term .ensures ∙ ap (λ (k : ℕ). joinedTerm k (t h)) symbol in
+    ap₂ (λ (k d : ℕ). set (L .loop .depths) k d) symbol (deep .operation-depth .ensures ∙ ap (operationDepth (L .loop .depths)) (operation-is o)) in
+    let new : joined .joined-term .result ≡ joinedTerm (n + length (os h)) (operand o) = joined .joined-term .ensures ∙ ap₂ joinedTerm symbol (operand-is o) in
     let left = put-at-end (terms h) (at h + 1) (placed _ _ (others h)) (c .place .result) (omega arith) (c .place .ensures)
     ∙ ap₂ (λ (ds : List ℕ) (x : Term). placed ds x (others h)) table new in
     let all = filled-more list count maxOperations (L .loop .inv .2) (o .join-operation .result) (omega (arith, made-few h, count-is h))
-    ∙ ap (λ (p : Operation). os h ++ (p ∷ [])) (o .join-operation .ensures) in (
+    ∙ ap (λ (p : Operation). os h ++ (p ∷ [])) (operation-is o) in (
       omega arith,
       omega (arith, made-few h, count-is h),
       length-set list count (o .join-operation .result) ∙ L .loop .inv .2,
@@ -227,8 +244,8 @@ loop-again c =
       before-next (L .loop .inv .4) (columns-few h) (few (L .before)) (t h) (u h) (others h) (two h) _ _ _ all table left,
     )
 
-of-requires : tie.Need-of-requires Inv-loop μ-loop
-of-requires c κs = omega arith
+of-requires-2 : tie.Need-of-requires-2 Inv-loop μ-loop
+of-requires-2 c κs = omega arith
 
 zero-output-requires : tie.Need-zero-output-requires Inv-loop μ-loop
 zero-output-requires c κs = search needs
@@ -245,7 +262,7 @@ returns c =
     let g = L .before in
     let none : drop (L .loop .at) (L .loop .terms) ≡ [] = drop-of-length-le (L .loop .terms) {i = L .loop .at} (omega arith) in
     let end = none-left (L .loop .inv .4) _ (whole-is g) none in
-    rw (of .of .ensures, c .zero-output .ensures, sym (made-is g)) (end .0, (end .1, L .loop .inv .4 .depths-held))
+    rw (of .of2 .ensures, c .zero-output .ensures, sym (made-is g)) (end .0, (end .1, L .loop .inv .4 .depths-held))
 
 mul-term-output : tie.Need-mul-term-output Inv-loop μ-loop
 mul-term-output c = omega arith
@@ -263,7 +280,7 @@ returns-2 c =
     let g = L .before in
     let one = one-at-end (L .loop .terms) (L .loop .at) (omega (arith, of .before .loop-test .left)) in
     let end = one-left (L .loop .inv .4) _ (whole-is g) (getD (L .loop .terms) (L .loop .at) noTerm) one in
-    rw (of .of .ensures, c .term-output .ensures, sym (made-is g)) (end .0, (end .1, L .loop .inv .4 .depths-held))
+    rw (of .of2 .ensures, c .term-output .ensures, sym (made-is g)) (end .0, (end .1, L .loop .inv .4 .depths-held))
 
 pub sum-row-spec : {M : Type 1} → statement M
 sum-row-spec =
@@ -278,11 +295,12 @@ sum-row-spec =
     sub-at
     loop-holds
     add-loop
-    mul-first
-    array-copy-out-first
-    add-join-operation
-    mul-join-operation
-    array-copy-out-join-operation
+    mul-of
+    array-copy-out-of
+    add-of
+    mul-of-2
+    array-copy-out-of-2
+    of-requires
     join-operation-requires
     add-symbol
     operation-depth-requires
@@ -297,7 +315,7 @@ sum-row-spec =
     place-requires
     loop-less
     loop-again
-    of-requires
+    of-requires-2
     zero-output-requires
     returns
     mul-term-output
