@@ -1,9 +1,9 @@
-//! Operations and depth of random banks: of the verified library's netlists, of those with chains, which request A4 has replaced, and
-//! the figures that source document 000 has for banks of its own.
+//! Operations, depth and negated outputs of random banks: of the verified library's netlists, of those by the rules that requests A4 and
+//! A5 have replaced, and the figures that source document 000 has for banks of its own.
 
 use bench::{seeds, NETLIST_ROOM};
 use cases::{bank, filled, Matrix, Random};
-use reference::{compile_by, Rules, Sums};
+use reference::{compile_by, Operands, Rules, Sums};
 
 /// Banks of each row, here and in document 000.
 const BANKS: usize = 100;
@@ -68,56 +68,72 @@ const PUBLISHED: [(usize, [&str; 7]); 4] = [
     ),
 ];
 
-/// Means over banks.
-pub struct Means {
-    pub operations: f64,
-    /// With chains.
-    pub before: f64,
-    /// Of the verified library.
-    pub depth: f64,
+/// What the netlists of some banks have together.
+#[derive(Default)]
+pub struct Totals {
+    pub operations: u64,
+    pub chain_depth: u64,
+    pub depth: u64,
+    pub outputs: u64,
+    /// Negated ones where the term that comes first is the first operand.
+    pub negated_in_order: u64,
+    pub negated: u64,
 }
 
-/// Banks as the other tables have them: what they are, and their means.
-pub fn drawn() -> Vec<(String, Means)> {
+impl Totals {
+    fn of_banks(draw: impl Fn(&mut Random) -> Matrix) -> Self {
+        let mut totals = Totals::default();
+        for seed in seeds(BANKS) {
+            totals.add(&draw(&mut Random::new(seed)));
+        }
+        totals
+    }
+
+    fn add(&mut self, matrix: &Matrix) {
+        let chain = Rules {
+            sums: Sums::Chain,
+            ..Rules::default()
+        };
+        let in_order = Rules {
+            operands: Operands::InOrder,
+            ..Rules::default()
+        };
+        let (record, mut netlist) = (matrix.record(), [0; NETLIST_ROOM]);
+        let mut by = |rules| compile_by(rules, &record, &mut netlist).expect("a right record");
+        let (chain, in_order) = (by(chain), by(in_order));
+        let compiled = zaatarloft::compile(&record, &mut netlist).expect("a right record");
+        assert_eq!(compiled.operations, chain.operations);
+        assert_eq!(compiled.operations, in_order.operations);
+        assert_eq!(compiled.depth, in_order.depth);
+        self.operations += u64::from(compiled.operations);
+        self.chain_depth += u64::from(chain.depth);
+        self.depth += u64::from(compiled.depth);
+        self.outputs += matrix.m() as u64;
+        self.negated_in_order += u64::from(in_order.negated);
+        self.negated += u64::from(compiled.negated);
+    }
+}
+
+/// The mean over the banks.
+pub fn mean(total: u64) -> f64 {
+    total as f64 / BANKS as f64
+}
+
+/// Banks as the other tables have them: what they are, and their totals.
+pub fn drawn() -> Vec<(String, Totals)> {
     let row = |(size, bits)| {
         let label = format!("{size} by {size}, {bits} bits");
-        (label, means(|random| bank(random, size, size, bits)))
+        let totals = Totals::of_banks(|random| bank(random, size, size, bits));
+        (label, totals)
     };
     SIZES.map(row).into()
 }
 
-/// Banks as document 000 draws its own: m, their means, and its figures.
-pub fn published() -> Vec<(usize, Means, [&'static str; 7])> {
+/// Banks as document 000 draws its own: m, their totals, and its figures.
+pub fn published() -> Vec<(usize, Totals, [&'static str; 7])> {
     let row = |(size, figures)| {
         let draw = |random: &mut Random| filled(size, size, || random.between(129, 255) as i16);
-        (size, means(draw), figures)
+        (size, Totals::of_banks(draw), figures)
     };
     PUBLISHED.map(row).into()
-}
-
-fn means(draw: impl Fn(&mut Random) -> Matrix) -> Means {
-    let mut sums = [0; 3];
-    for seed in seeds(BANKS) {
-        let figures = figures(&draw(&mut Random::new(seed)).record());
-        sums.iter_mut().zip(figures).for_each(|(sum, x)| *sum += x);
-    }
-    let [operations, before, depth] = sums.map(|sum| sum as f64 / BANKS as f64);
-    Means {
-        operations,
-        before,
-        depth,
-    }
-}
-
-/// Operations, depth with chains, and depth.
-fn figures(record: &[u8]) -> [u64; 3] {
-    let rules = Rules {
-        sums: Sums::Chain,
-        ..Rules::default()
-    };
-    let mut netlist = [0; NETLIST_ROOM];
-    let before = compile_by(rules, record, &mut netlist).expect("a right record");
-    let compiled = zaatarloft::compile(record, &mut netlist).expect("a right record");
-    assert_eq!(compiled.operations, before.operations);
-    [compiled.operations, before.depth, compiled.depth].map(u64::from)
 }

@@ -95,8 +95,10 @@ fn main() {
     });
     tables::touched(&mut text, &sizes);
     tables::burn_in(&mut text, &burn_in);
-    tables::depths(&mut text, &depths::drawn());
+    let drawn = depths::drawn();
+    tables::depths(&mut text, &drawn);
     tables::published_depths(&mut text, &depths::published());
+    tables::negated_outputs(&mut text, &drawn);
     tables::memory(&mut text, &memory);
     tables::absolute(&mut text, &calls, &instructions, &machine);
     replace_measured(&root.join("docs/BENCHMARKS.md"), &text);

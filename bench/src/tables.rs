@@ -4,7 +4,7 @@ use std::fmt::Write;
 
 use bench::CALLS;
 
-use crate::depths::{Means, METHODS};
+use crate::depths::{mean, Totals, METHODS};
 use crate::programs::{Figures, Memory};
 use crate::text::{seconds, thousands};
 use crate::times::Times;
@@ -98,7 +98,7 @@ pub fn burn_in(text: &mut String, runs: &[(&str, [f64; 2])]) {
     text.push('\n');
 }
 
-pub fn depths(text: &mut String, rows: &[(String, Means)]) {
+pub fn depths(text: &mut String, rows: &[(String, Totals)]) {
     text.push_str("## Operations and depth\n\nMeans over 100 random banks.\n\n");
     let columns = [
         "m by n",
@@ -107,15 +107,15 @@ pub fn depths(text: &mut String, rows: &[(String, Means)]) {
         "Depth",
     ];
     header(text, &columns);
-    for (label, means) in rows {
-        let numbers = [means.operations, means.before, means.depth];
-        let [operations, before, depth] = numbers.map(|number| format!("{number:.1}"));
-        row(text, &[label.clone(), operations, before, depth]);
+    for (label, totals) in rows {
+        let numbers = [totals.operations, totals.chain_depth, totals.depth];
+        let [operations, chain_depth, depth] = numbers.map(|total| format!("{:.1}", mean(total)));
+        row(text, &[label.clone(), operations, chain_depth, depth]);
     }
     text.push('\n');
 }
 
-pub fn published_depths(text: &mut String, rows: &[(usize, Means, [&str; 7])]) {
+pub fn published_depths(text: &mut String, rows: &[(usize, Totals, [&str; 7])]) {
     text.push_str(
         "Beside Table 2 of source document 000 (Aksoy and others, Multiplierless Design of Linear DSP Transforms), a cell has the mean \
          number of operations and the mean depth, there `adder` and `step`. Its steps are what depth is here; all else differs \
@@ -125,15 +125,32 @@ pub fn published_depths(text: &mut String, rows: &[(usize, Means, [&str; 7])]) {
     );
     let ours = ["m by m", "Zaatarloft with chains", "Zaatarloft"];
     header(text, &[&ours, &METHODS[..]].concat());
-    for (size, means, figures) in rows {
-        let ours = |depth| format!("{:.1}, {depth:.1}", means.operations);
+    for (size, totals, figures) in rows {
+        let ours = |depth| format!("{:.1}, {:.1}", mean(totals.operations), mean(depth));
         let cells = [
             format!("{size} by {size}"),
-            ours(means.before),
-            ours(means.depth),
+            ours(totals.chain_depth),
+            ours(totals.depth),
         ];
         let figures = figures.map(str::to_string);
         row(text, &[&cells[..], &figures[..]].concat());
+    }
+    text.push('\n');
+}
+
+pub fn negated_outputs(text: &mut String, rows: &[(String, Totals)]) {
+    text.push_str("## Negated outputs\n\nOutputs of the same banks, 100 in each row.\n\n");
+    let columns = [
+        "m by n",
+        "Outputs",
+        "Negated with operands in order, before request A5",
+        "Negated",
+    ];
+    header(text, &columns);
+    for (label, totals) in rows {
+        let numbers = [totals.outputs, totals.negated_in_order, totals.negated];
+        let [outputs, in_order, negated] = numbers.map(|number| thousands(number as f64));
+        row(text, &[label.clone(), outputs, in_order, negated]);
     }
     text.push('\n');
 }

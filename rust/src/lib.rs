@@ -8,7 +8,7 @@
 //! let matrix = [0x0A, 0, 1, 0, 1, 2, 3, 0, 0xFD, 0xFF]; // row 3, −3
 //! let mut buffer = [0; 6136];
 //! let compiled = zaatarloft::compile(&matrix, &mut buffer)?;
-//! assert_eq!((compiled.operations, compiled.depth), (2, 2));
+//! assert_eq!((compiled.operations, compiled.depth, compiled.negated), (2, 2, 0));
 //! let mut outputs = [0];
 //! zaatarloft::run(&buffer[..compiled.written], &[32_767, -32_768], &mut outputs)?;
 //! assert_eq!(outputs, [196_605]);
@@ -68,6 +68,8 @@ pub struct Compiled {
     pub divisors: u16,
     pub replacements: u16,
     pub depth: u16,
+    /// Outputs with sign minus.
+    pub negated: u16,
 }
 
 /// What an accepted read returns.
@@ -109,6 +111,7 @@ pub fn compile(matrix: &[u8], buffer: &mut [u8]) -> Result<Compiled, Refusal> {
         divisors: 0,
         replacements: 0,
         depth: 0,
+        negated: 0,
     };
     // SAFETY: both slices are valid for their lengths, the buffer for writes, and all references are to distinct numbers.
     let number = unsafe {
@@ -124,6 +127,7 @@ pub fn compile(matrix: &[u8], buffer: &mut [u8]) -> Result<Compiled, Refusal> {
             &mut compiled.divisors,
             &mut compiled.replacements,
             &mut compiled.depth,
+            &mut compiled.negated,
         )
     };
     accepted(number, place, compiled)

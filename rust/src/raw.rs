@@ -15,6 +15,7 @@ extern "C" {
         divisors: *mut u16,
         replacements: *mut u16,
         depth: *mut u16,
+        negated: *mut u16,
     ) -> u8;
 }
 extern "C" {

@@ -27,6 +27,8 @@ const PROMISES: [(&str, &[&str]); 5] = [
             "bank_rules/Claim",
             "netlist_rules/Exact",
             "compile_rules/Compiled",
+            "sum_rules/Signs",
+            "elimination_rules/Negated",
             "generator/States",
         ],
     ),

@@ -1,7 +1,8 @@
 //! Netlist and board machine: operations and outputs as data.
 
+use crate::compile::Rules;
 use crate::elimination::{Divisor, Elimination};
-use crate::sums::{Operations, Sums};
+use crate::sums::Operations;
 
 /// The most operations of a netlist.
 pub(crate) const MOST_OPERATIONS: usize = 504;
@@ -56,17 +57,23 @@ pub(crate) struct Board {
 
 impl Board {
     /// One operation for each divisor, then the operations that sum each of the m remaining rows.
-    pub fn of_elimination(elimination: &Elimination, sums: Sums, m: usize, n: usize) -> Self {
+    pub fn of_elimination(elimination: &Elimination, rules: Rules, m: usize, n: usize) -> Self {
         let mut operations = Operations::with_inputs(n);
         for divisor in &elimination.divisors {
             operations.append(Operation::of_divisor(divisor));
         }
-        let sum = |row| operations.sum(elimination.rows.terms(row), sums);
+        let sum = |row| operations.sum(elimination.rows.terms(row), rules);
         let outputs = (0..m).map(sum).collect();
         Board {
             n,
             operations: operations.operations,
             outputs,
         }
+    }
+
+    /// How many outputs have the sign minus.
+    pub fn negated(&self) -> u16 {
+        let minus = |output: &&Output| matches!(output, Output::Entry { minus: true, .. });
+        self.outputs.iter().filter(minus).count() as u16
     }
 }

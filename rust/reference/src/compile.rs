@@ -4,7 +4,7 @@ use crate::board::{Board, Operand, Operation, Output};
 use crate::elimination::{Elimination, Order, Rows};
 use crate::matrix::Matrix;
 use crate::refusal::{require, Refusal};
-use crate::sums::Sums;
+use crate::sums::{Operands, Sums};
 use crate::width::Entries;
 
 /// What an accepted compile returns.
@@ -18,6 +18,8 @@ pub struct Compiled {
     pub divisors: u16,
     pub replacements: u16,
     pub depth: u16,
+    /// Outputs with the sign minus.
+    pub negated: u16,
 }
 
 /// Rules that a later request has changed. The default ones are in force.
@@ -25,6 +27,7 @@ pub struct Compiled {
 pub struct Rules {
     pub order: Order,
     pub sums: Sums,
+    pub operands: Operands,
 }
 
 /// Writes the netlist of a matrix record into the first bytes of `buffer`.
@@ -37,7 +40,7 @@ pub fn compile_by(rules: Rules, matrix: &[u8], buffer: &mut [u8]) -> Result<Comp
     let matrix = Matrix::of_record(matrix)?;
     let plain = plain_count(&Rows::of_matrix(&matrix), matrix.m);
     let elimination = Elimination::of_matrix(&matrix, rules.order);
-    let board = Board::of_elimination(&elimination, rules.sums, matrix.m, matrix.n);
+    let board = Board::of_elimination(&elimination, rules, matrix.m, matrix.n);
     require(buffer.len() >= size(&board), 6, 0)?;
 
     let mut writer = Writer { buffer, place: 0 };
@@ -49,6 +52,7 @@ pub fn compile_by(rules: Rules, matrix: &[u8], buffer: &mut [u8]) -> Result<Comp
         divisors: elimination.divisors.len() as u16,
         replacements: elimination.replacements,
         depth,
+        negated: board.negated(),
     })
 }
 

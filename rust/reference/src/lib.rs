@@ -3,7 +3,7 @@
 //! It is the other side of every comparison with the verified library: tests hold the two answers against each other, and
 //! the benchmark takes it as its base. The calls have the shape of the verified library's wrappers, and a buffer that
 //! a call is lent changes only where the call is accepted. `compile_by`, which the library does not have, says what netlists
-//! were before request A2 or A4, and `literal` goes through elimination state by state.
+//! were before request A2, A4 or A5, and `literal` goes through elimination state by state.
 
 mod board;
 mod check;
@@ -28,4 +28,4 @@ pub use read::{read, Netlist};
 pub use record::{step, Record};
 pub use refusal::{returned, Refusal};
 pub use run::run;
-pub use sums::Sums;
+pub use sums::{Operands, Sums};

@@ -56,6 +56,18 @@ fn marked_widths() {
     assert_eq!(widths(&compiled(&[&[0]]).1), [1]);
     let (_, eight) = compiled(&[&[-32_768; 8]]);
     assert_eq!(widths(&eight)[6..], [34, 35]);
+    let (_, mixed) = compiled(&[&[-3, 5, 7, -1]]);
+    assert_eq!(widths(&mixed), [18, 19, 19, 19, 20, 20, 20]);
+}
+
+#[test]
+fn negated_outputs() {
+    let negated = |rows: &[&[i16]]| compiled(rows).0.negated;
+    assert_eq!(negated(&[&[-1]]), 1);
+    assert_eq!(negated(&[&[-1, 1]]), 0);
+    assert_eq!(negated(&[&[-32_768; 8]]), 1);
+    assert_eq!(negated(&[&[-3, 5, 7, -1]]), 0);
+    assert_eq!(negated(&[&[5], &[0], &[-1], &[-2]]), 2);
 }
 
 #[test]
@@ -64,8 +76,8 @@ fn three_minus_three() {
     let expected = [
         &[8, 0, 2, 0, 1, 2, 2, 0][..],
         &[12, 0, 3, 0, 1, 0, 0, 0, 1, 0, 0, 17],
-        &[12, 0, 3, 0, 1, 2, 0, 0, 2, 0, 2, 19],
-        &[9, 0, 4, 0, 1, 3, 0, 0, 19],
+        &[12, 0, 3, 0, 1, 2, 0, 2, 2, 0, 0, 19],
+        &[9, 0, 4, 0, 0, 3, 0, 0, 19],
         &[8, 0, 5, 0, 2, 0, 2, 0],
     ];
     assert_eq!(netlist, expected.concat());
@@ -76,6 +88,7 @@ fn three_minus_three() {
         divisors: 1,
         replacements: 2,
         depth: 2,
+        negated: 0,
     };
     assert_eq!(bank, counts);
     let read_back = Netlist {

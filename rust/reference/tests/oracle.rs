@@ -13,7 +13,7 @@ use cases::{any_matrix, any_netlist, damage, damage_matrix, each, plain_netlist,
 use reference::Refusal;
 
 /// How many of the later requests are in force: the program's first word.
-const REQUESTS: &str = "4";
+const REQUESTS: &str = "5";
 
 fn bank(words: &[&str], input: &[u8]) -> Output {
     let program = env::var("BANK").expect("BANK is the path of bank.py");
@@ -50,7 +50,14 @@ fn compare_compile(met: &mut Met, record: &[u8]) -> Option<Vec<u8>> {
             met.count(0);
             buffer.truncate(c.written);
             assert_eq!(theirs.stdout, buffer);
-            let counts = [c.operations, c.plain, c.divisors, c.replacements, c.depth];
+            let counts = [
+                c.operations,
+                c.plain,
+                c.divisors,
+                c.replacements,
+                c.depth,
+                c.negated,
+            ];
             let listed: Vec<String> = counts.iter().map(u16::to_string).collect();
             let expected = format!("{} {}", c.written, listed.join(" "));
             assert_eq!(text(&theirs.stderr), expected);

@@ -1,8 +1,9 @@
-//! Request A4: rows are summed in the shallowest order.
+//! Requests A4 and A5: rows are summed in the shallowest order, and of a positive and a negative term the positive one is the first
+//! operand.
 
-use cases::{any_matrix, Matrix, Random};
-use reference::literal::Elimination;
-use reference::{compile_by, step, Compiled, Rules, Sums};
+use cases::{any_matrix, filled, Matrix, Random};
+use reference::literal::{Elimination, Term};
+use reference::{compile_by, step, Compiled, Operands, Rules, Sums};
 
 /// What compile answers, and the payloads of operations and of outputs without their widths.
 struct Netlist {
@@ -11,11 +12,11 @@ struct Netlist {
     outputs: Vec<Vec<u8>>,
 }
 
-fn netlist(matrix: &Matrix, sums: Sums) -> Netlist {
-    let rules = Rules {
-        sums,
-        ..Rules::default()
-    };
+fn netlist(matrix: &Matrix) -> Netlist {
+    netlist_by(Rules::default(), matrix)
+}
+
+fn netlist_by(rules: Rules, matrix: &Matrix) -> Netlist {
     let mut buffer = vec![0; 6136];
     let compiled = compile_by(rules, &matrix.record(), &mut buffer).unwrap();
     buffer.truncate(compiled.written);
@@ -92,10 +93,14 @@ fn least_depth_is_that_of_all_ways() {
 fn no_way_of_joining_is_shallower() {
     let mut random = Random::new(20_261_118);
     let mut shallower = 0;
+    let chain = Rules {
+        sums: Sums::Chain,
+        ..Rules::default()
+    };
     for _ in 0..1_000 {
         let matrix = any_matrix(&mut random, 8, 8);
-        let now = netlist(&matrix, Sums::Shallowest);
-        let chains = netlist(&matrix, Sums::Chain);
+        let now = netlist(&matrix);
+        let chains = netlist_by(chain, &matrix);
         let depths = depths(&now, matrix.n());
         let elimination = Elimination::of_record(&matrix.record()).unwrap();
         let remaining = &elimination.states.last().unwrap().rows;
@@ -126,7 +131,7 @@ fn no_way_of_joining_is_shallower() {
 
 /// The operations of a matrix, as sign, a, ea, b and eb; then the outputs, as sign, symbol and shift.
 fn listed(rows: &[&[i16]]) -> (Vec<[usize; 5]>, Vec<[usize; 3]>) {
-    let netlist = netlist(&Matrix::of_rows(rows), Sums::Shallowest);
+    let netlist = netlist(&Matrix::of_rows(rows));
     let operation = |o: &Vec<u8>| {
         let (a, b) = (symbol(&o[1..]), symbol(&o[4..]));
         [o[0].into(), a, o[3].into(), b, o[6].into()]
@@ -150,12 +155,13 @@ fn five_inputs() {
     assert_eq!(listed(&[&[1; 5]]), (sums.to_vec(), vec![[0, 8, 0]]));
 }
 
-/// −x0 and x1 give −(x0 − x1); then x2, of depth 0, is the first.
+/// −x0 and x1 give x1 − x0, to which x2 is added; x0 and −x1 give x0 − x1, from which x2 is subtracted.
 #[test]
-fn first_of_two_gives_the_sign() {
-    let sums = [[1, 0, 0, 1, 0], [1, 2, 0, 3, 0]];
+fn positive_one_of_two_is_first() {
+    let sums = [[1, 1, 0, 0, 0], [0, 2, 0, 3, 0]];
     assert_eq!(listed(&[&[-1, 1, 1]]), (sums.to_vec(), vec![[0, 4, 0]]));
-    assert_eq!(listed(&[&[1, -1, -1]]), (sums.to_vec(), vec![[1, 4, 0]]));
+    let sums = [[1, 0, 0, 1, 0], [1, 3, 0, 2, 0]];
+    assert_eq!(listed(&[&[1, -1, -1]]), (sums.to_vec(), vec![[0, 4, 0]]));
 }
 
 /// Digits at 0, 2, 5 and 9, of which no two pairs have one distance: exponents alone decide.
@@ -174,4 +180,110 @@ fn divisor_before_a_sum_of_its_depth() {
         listed(&[&[1, 1, 1, 1], &[-8, -8, 0, 0]]),
         (sums.to_vec(), outputs)
     );
+}
+
+/// Terms of the remaining row are −(2<<0) and +(2<<2), and 2 is x0 − x1.
+#[test]
+fn three_minus_three() {
+    let sums = [[1, 0, 0, 1, 0], [1, 2, 2, 2, 0]];
+    assert_eq!(listed(&[&[3, -3]]), (sums.to_vec(), vec![[0, 3, 0]]));
+}
+
+#[test]
+fn negative_terms_alone() {
+    assert_eq!(listed(&[&[-4]]), (vec![], vec![[1, 0, 2]]));
+    assert_eq!(listed(&[&[-1], &[1]]), (vec![], vec![[1, 0, 0], [0, 0, 0]]));
+    let sums = [[0, 0, 0, 1, 1], [0, 2, 0, 3, 0]];
+    assert_eq!(listed(&[&[-1, -2, -1]]), (sums.to_vec(), vec![[1, 4, 0]]));
+}
+
+/// Divisors keep their order: 3 is x0 − x1, also where each row has it negated. A row that is left with −(3<<0) alone has the output
+/// minus; beside x2 it is subtracted.
+#[test]
+fn divisors_of_negated_rows() {
+    let divisor = [1, 0, 0, 1, 0];
+    assert_eq!(
+        listed(&[&[-1, 1, 0], &[-4, 4, 0]]),
+        (vec![divisor], vec![[1, 3, 0], [1, 3, 2]])
+    );
+    assert_eq!(
+        listed(&[&[-1, 1, 0], &[-4, 4, 1], &[4, -4, -8]]),
+        (
+            vec![divisor, [1, 2, 0, 3, 2], [1, 3, 2, 2, 3]],
+            vec![[1, 3, 0], [0, 4, 0], [0, 5, 0]]
+        )
+    );
+    // Two rows of mixed signs that share all: 4 is a divisor too, and the second row is left with −(4<<0).
+    assert_eq!(
+        listed(&[&[-4, 4, 1], &[4, -4, -1], &[-1, 1, 0]]),
+        (
+            vec![divisor, [1, 2, 0, 3, 2]],
+            vec![[0, 4, 0], [1, 4, 0], [1, 3, 0]]
+        )
+    );
+}
+
+/// The sign of an output, from the terms that are left in its row.
+#[test]
+fn outputs_are_minus_exactly_where_all_terms_are_negative() {
+    let mut random = Random::new(20_261_119);
+    let (mut outputs, mut minus, mut before) = (0, 0, 0);
+    let in_order = Rules {
+        operands: Operands::InOrder,
+        ..Rules::default()
+    };
+    for _ in 0..1_000 {
+        let matrix = any_matrix(&mut random, 8, 8);
+        let now = netlist(&matrix);
+        let elimination = Elimination::of_record(&matrix.record()).unwrap();
+        let remaining = &elimination.states.last().unwrap().rows;
+        let sign = |row: &Vec<Term>| match row.len() {
+            0 => 2,
+            _ => u8::from(row.iter().all(|term| term.minus)),
+        };
+        let signs: Vec<u8> = remaining.iter().map(sign).collect();
+        let written: Vec<u8> = now.outputs.iter().map(|output| output[0]).collect();
+        assert_eq!(written, signs, "{matrix:?}");
+        let count = signs.iter().filter(|&&sign| sign == 1).count();
+        assert_eq!(usize::from(now.compiled.negated), count);
+
+        let old = netlist_by(in_order, &matrix).compiled;
+        assert!(now.compiled.negated <= old.negated);
+        outputs += matrix.m();
+        minus += usize::from(now.compiled.negated);
+        before += usize::from(old.negated);
+    }
+    println!("of {outputs} outputs {minus} are minus, {before} before request A5");
+    assert!(minus >= 300 && before - minus >= 300);
+}
+
+/// With every row negated all counts are the same but that of negated outputs, and no row is minus in both.
+#[test]
+fn negated_matrices_take_as_many_operations() {
+    let mut random = Random::new(20_261_120);
+    for _ in 0..1_000 {
+        let mut matrix = any_matrix(&mut random, 8, 8);
+        for coefficient in matrix.rows.iter_mut().flatten() {
+            *coefficient = (*coefficient).max(-i16::MAX);
+        }
+        let (m, n) = (matrix.m(), matrix.n());
+        let mut coefficients = matrix.rows.iter().flatten();
+        let turned = netlist(&filled(m, n, || -coefficients.next().unwrap()));
+        let one = netlist(&matrix);
+        let negated = turned.compiled.negated;
+        assert_eq!(
+            turned.compiled,
+            Compiled {
+                negated,
+                ..one.compiled
+            }
+        );
+        let divisors = usize::from(one.compiled.divisors);
+        assert_eq!(one.operations[..divisors], turned.operations[..divisors]);
+        for (output, other) in one.outputs.iter().zip(&turned.outputs) {
+            assert_eq!(output[1..], other[1..]);
+            assert_eq!(output[0] == 2, other[0] == 2);
+            assert_ne!((output[0], other[0]), (1, 1));
+        }
+    }
 }

@@ -7,8 +7,8 @@ use reference::returned;
 
 use crate::case::{Call, Case};
 use crate::matrices::{
-    banks_with_equal_depths, banks_with_equal_scores, matrices, netlist, refused_records,
-    three_minus_three, ROOM,
+    banks_with_equal_depths, banks_with_equal_scores, banks_with_negative_terms, matrices, netlist,
+    refused_records, three_minus_three, ROOM,
 };
 
 /// What a lent buffer holds before.
@@ -26,6 +26,7 @@ fn banks() -> Vec<Matrix> {
         matrices(),
         banks_with_equal_scores(),
         banks_with_equal_depths(),
+        banks_with_negative_terms(),
     ]
     .concat()
 }
@@ -55,13 +56,14 @@ fn case(room: usize, record: &[u8]) -> Case {
     let (number, place) = returned(&answer);
     let compiled = answer.unwrap_or_default();
     let mut printed = format!(
-        "{number} {place} {} {} {} {} {} {}\n",
+        "{number} {place} {} {} {} {} {} {} {}\n",
         compiled.written,
         compiled.operations,
         compiled.plain,
         compiled.divisors,
         compiled.replacements,
-        compiled.depth
+        compiled.depth,
+        compiled.negated
     );
     for byte in buffer {
         let _ = write!(printed, "{byte:02x}");
@@ -83,7 +85,7 @@ pub fn compiled_records() -> Vec<Vec<u8>> {
 #[cfg(test)]
 mod tests {
     use super::*;
-    use reference::{compile_by, Compiled, Order, Rules, Sums};
+    use reference::{compile_by, Compiled, Operands, Order, Rules, Sums};
 
     /// The answer and the netlist of a record, by some rules.
     fn compiled(rules: Rules, record: &[u8]) -> (Compiled, Vec<u8>) {
@@ -95,10 +97,13 @@ mod tests {
     /// Before request A2 the depth of a divisor's operation did not count among equal scores.
     #[test]
     fn at_least_fifty_stored_matrices_have_other_bytes_where_depth_does_not_count() {
-        let (order, sums) = (Order::DivisorAlone, Sums::default());
+        let rules = Rules {
+            order: Order::DivisorAlone,
+            ..Rules::default()
+        };
         let differs = |record: &&Vec<u8>| {
             let now = compiled(Rules::default(), record);
-            now.1 != compiled(Rules { order, sums }, record).1
+            now.1 != compiled(rules, record).1
         };
         let count = compiled_records().iter().filter(differs).count();
         println!("{count} stored matrices have other bytes where depth does not count");
@@ -108,11 +113,14 @@ mod tests {
     /// Chains were what request A4 has replaced.
     #[test]
     fn at_least_fifty_stored_matrices_are_shallower_than_with_chains() {
-        let (order, sums) = (Order::default(), Sums::Chain);
+        let rules = Rules {
+            sums: Sums::Chain,
+            ..Rules::default()
+        };
         let (mut others, mut shallower, records) = (0, 0, compiled_records());
         for record in &records {
             let (now, netlist) = compiled(Rules::default(), record);
-            let (before, chains) = compiled(Rules { order, sums }, record);
+            let (before, chains) = compiled(rules, record);
             assert_eq!(now.operations, before.operations);
             assert!(now.depth <= before.depth);
             others += usize::from(netlist != chains);
@@ -125,5 +133,30 @@ mod tests {
             shallower >= 50,
             "only {shallower} stored matrices are shallower"
         );
+    }
+
+    /// Before request A5 the term that comes first was the first operand, also where it was the negative one of two.
+    #[test]
+    fn at_least_fifty_stored_matrices_have_fewer_minus_outputs_than_with_operands_in_order() {
+        let rules = Rules {
+            operands: Operands::InOrder,
+            ..Rules::default()
+        };
+        let (mut others, mut fewer, mut minus, records) = (0, 0, 0, compiled_records());
+        for record in &records {
+            let (now, netlist) = compiled(Rules::default(), record);
+            let (before, in_order) = compiled(rules, record);
+            assert!(now.negated <= before.negated);
+            let negated = now.negated;
+            assert_eq!(now, Compiled { negated, ..before });
+            others += usize::from(netlist != in_order);
+            fewer += usize::from(now.negated < before.negated);
+            minus += usize::from(now.negated > 0);
+        }
+        let all = records.len();
+        println!("of {all} stored matrices {others} have other bytes than with operands in order");
+        println!("and {fewer} fewer minus outputs; {minus} have some still");
+        assert!(fewer >= 50, "only {fewer} have fewer minus outputs");
+        assert!(minus >= 30, "only {minus} have a minus output");
     }
 }

@@ -119,6 +119,59 @@ pub fn banks_with_equal_depths() -> Vec<Matrix> {
     all
 }
 
+/// For compile alone, banks that tell which operand is the first one, and which outputs are minus.
+pub fn banks_with_negative_terms() -> Vec<Matrix> {
+    let mut all = small_banks_with_negative_terms();
+    let mut random = MersenneTwister::new(&[20_261_118]);
+    for m in 1..=8 {
+        let n = random.between(2, 8) as usize;
+        let power = |random: &mut MersenneTwister, sign: i16| sign << random.between(0, 14);
+        all.push(filled(m, n, || power(&mut random, -1)));
+        all.push(filled(m, n, || {
+            let sign = random.choose(&[1, -1, -1]);
+            power(&mut random, sign)
+        }));
+    }
+    // rows, and each of them negated
+    for m in [1, 2, 4] {
+        let rows = filled(m, 4, || random.between(-40, 40) as i16).rows;
+        let negated = rows.iter().map(|row| row.iter().map(|c| -c).collect());
+        all.push(Matrix {
+            rows: negated.chain(rows.clone()).collect(),
+        });
+    }
+    all
+}
+
+fn small_banks_with_negative_terms() -> Vec<Matrix> {
+    let banks: [&[&[i16]]; 19] = [
+        // one negative term
+        &[&[0, -64, 0]],
+        &[&[-1], &[2], &[0], &[-16_384]],
+        // negative terms alone, added in their order
+        &[&[-1, -1]],
+        &[&[-549]],
+        &[&[-1, -2, -1], &[-2, -1, -4], &[1, 4, 2]],
+        // mixed signs: the positive one first, of one symbol, of two, of a sum and an input, of two sums
+        &[&[3]],
+        &[&[-3]],
+        &[&[-1, 1]],
+        &[&[1, -1]],
+        &[&[1, -1, -1]],
+        &[&[-1, -1, 1]],
+        &[&[-1, -1, -1, 1]],
+        &[&[-1, -1, 1, 1]],
+        &[&[-3, 5, 7, -1]],
+        // divisors of negated rows, alone, beside other terms, and of whole rows
+        &[&[-1, -1], &[1, 1]],
+        &[&[-1, 1, 0], &[-4, 4, 0]],
+        &[&[-1, 1, 0], &[-4, 4, 1], &[4, -4, -8]],
+        &[&[-4, 4, 1], &[4, -4, -1], &[-1, 1, 0]],
+        &[&[-549, 549], &[549, -549]],
+    ];
+    banks.map(Matrix::of_rows).to_vec()
+}
+
 /// Matrix records that are refused, with 1 to 5.
 pub fn refused_records() -> Vec<Vec<u8>> {
     let right = three_minus_three().record();

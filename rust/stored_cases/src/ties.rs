@@ -1,6 +1,8 @@
 //! The stored matrices tell how compile decides ties in depth where it sums a row. Rows are joined here once more, word for word, from
 //! what the literal elimination leaves; then again with the ties of one kind decided the other way round.
 
+use std::mem;
+
 use reference::literal::{Elimination, Term};
 
 use crate::compile::compiled_records;
@@ -85,10 +87,13 @@ impl Board {
         self.operations.push(operation(minus, a, b));
     }
 
-    /// Joins the first two summands, and leaves their sum in place of them.
+    /// Joins the first two summands, and leaves their sum in place of them. A positive one stands before a negative one.
     fn join(&mut self, summands: &mut Vec<Summand>) {
-        let [a, b] = [0, 1].map(|index| summands[index].term);
+        let [mut a, mut b] = [0, 1].map(|index| summands[index].term);
         let subtracted = a.minus != b.minus;
+        if subtracted && a.minus {
+            mem::swap(&mut a, &mut b);
+        }
         self.append(subtracted, (a.symbol, a.exponent), (b.symbol, b.exponent));
         let sum = Summand {
             term: Term {

@@ -66,6 +66,7 @@ impl Both {
             divisors: c.divisors,
             replacements: c.replacements,
             depth: c.depth,
+            negated: c.negated,
         });
         assert_eq!(answer, expected, "compile of {matrix:?}");
         assert_eq!(buffer, contents, "buffer after compile of {matrix:?}");

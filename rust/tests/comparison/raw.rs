@@ -8,6 +8,31 @@ use zaatarloft::raw::{
     zaatarloft_raw_step,
 };
 
+/// The refusal's number and place, the bytes written, and the counts, all of which held another number before.
+fn raw_compile(record: &[u8], buffer: &mut [u8]) -> ((u8, usize), usize, [u16; 6]) {
+    let (mut place, mut written) = (77, 77);
+    let mut counts = [77; 6];
+    let [operations, plain, divisors, replacements, depth, negated] = &mut counts;
+    // SAFETY: all slices are valid for their lengths and distinct, as are the numbers.
+    let number = unsafe {
+        zaatarloft_raw_compile(
+            record.as_ptr(),
+            record.len(),
+            buffer.as_mut_ptr(),
+            buffer.len(),
+            &mut place,
+            &mut written,
+            operations,
+            plain,
+            divisors,
+            replacements,
+            depth,
+            negated,
+        )
+    };
+    ((number, place), written, counts)
+}
+
 #[test]
 fn numbers_of_compile() {
     let mut met = Met::default();
@@ -15,34 +40,20 @@ fn numbers_of_compile() {
         let (matrix, other) = (any_matrix(random, 3, 3), any_matrix(random, 3, 3));
         let record = damage_matrix(random, &matrix.record(), &other.record());
         let room = random.between(0, 400);
-        let mut buffer = vec![0; room];
-        let (mut place, mut written) = (77, 77);
-        let mut counts = [77; 5];
-        let [operations, plain, divisors, replacements, depth] = &mut counts;
-        // SAFETY: all slices are valid for their lengths and distinct, as are the numbers.
-        let number = unsafe {
-            zaatarloft_raw_compile(
-                record.as_ptr(),
-                record.len(),
-                buffer.as_mut_ptr(),
-                buffer.len(),
-                &mut place,
-                &mut written,
-                operations,
-                plain,
-                divisors,
-                replacements,
-                depth,
-            )
-        };
-        met.count(number);
+        let (refusal, written, counts) = raw_compile(&record, &mut vec![0; room]);
+        met.count(refusal.0);
         let expected = reference::compile(&record, &mut vec![0; room]);
-        assert_eq!((number, place), returned(&expected));
-        let expected = expected.map_or((0, [0; 5]), |c| {
-            let counts = [c.operations, c.plain, c.divisors, c.replacements, c.depth];
-            (c.written, counts)
-        });
-        assert_eq!((written, counts), expected);
+        assert_eq!(refusal, returned(&expected));
+        let expected = expected.unwrap_or_default();
+        let numbers = [
+            expected.operations,
+            expected.plain,
+            expected.divisors,
+            expected.replacements,
+            expected.depth,
+            expected.negated,
+        ];
+        assert_eq!((written, counts), (expected.written, numbers));
     });
     met.assert_exactly("compile", &[0, 1, 2, 3, 4, 5, 6], 100);
 }
