@@ -98,21 +98,31 @@ pub fn burn_in(text: &mut String, runs: &[(&str, [f64; 2])]) {
     text.push('\n');
 }
 
+/// A row for each kind of random banks: what they are, and a number in each column.
+fn random_banks(
+    text: &mut String,
+    columns: [&str; 3],
+    rows: &[(String, Totals)],
+    numbers: impl Fn(&Totals) -> [String; 3],
+) {
+    header(text, &[&["m by n"], &columns[..]].concat());
+    for (label, totals) in rows {
+        row(text, &[&[label.clone()], &numbers(totals)[..]].concat());
+    }
+    text.push('\n');
+}
+
 pub fn depths(text: &mut String, rows: &[(String, Totals)]) {
     text.push_str("## Operations and depth\n\nMeans over 100 random banks.\n\n");
     let columns = [
-        "m by n",
         "Operations",
         "Depth with chains, before request A4",
         "Depth",
     ];
-    header(text, &columns);
-    for (label, totals) in rows {
+    random_banks(text, columns, rows, |totals| {
         let numbers = [totals.operations, totals.chain_depth, totals.depth];
-        let [operations, chain_depth, depth] = numbers.map(|total| format!("{:.1}", mean(total)));
-        row(text, &[label.clone(), operations, chain_depth, depth]);
-    }
-    text.push('\n');
+        numbers.map(|total| format!("{:.1}", mean(total)))
+    });
 }
 
 pub fn published_depths(text: &mut String, rows: &[(usize, Totals, [&str; 7])]) {
@@ -140,19 +150,11 @@ pub fn published_depths(text: &mut String, rows: &[(usize, Totals, [&str; 7])]) 
 
 pub fn negated_outputs(text: &mut String, rows: &[(String, Totals)]) {
     text.push_str("## Negated outputs\n\nOutputs of the same banks, 100 in each row.\n\n");
-    let columns = [
-        "m by n",
-        "Outputs",
-        "Negated with operands in order, before request A5",
-        "Negated",
-    ];
-    header(text, &columns);
-    for (label, totals) in rows {
+    let before = "Negated with operands in order, before request A5";
+    random_banks(text, ["Outputs", before, "Negated"], rows, |totals| {
         let numbers = [totals.outputs, totals.negated_in_order, totals.negated];
-        let [outputs, in_order, negated] = numbers.map(|number| thousands(number as f64));
-        row(text, &[label.clone(), outputs, in_order, negated]);
-    }
-    text.push('\n');
+        numbers.map(|number| thousands(number as f64))
+    });
 }
 
 pub fn memory(text: &mut String, memory: &Figures<Memory>) {

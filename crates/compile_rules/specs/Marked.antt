@@ -95,7 +95,8 @@ pub record MarkedBanks : Type 0 where
   pub compiled-eight : netlistFor 1 8 (replicate 8 (negsuc 32767) ∷ []) .operations ≡ sumOfEight
   pub output-eight : netlistFor 1 8 (replicate 8 (negsuc 32767) ∷ []) .outputs ≡ negatedSum ∷ []
   pub depth-eight : netlistFor 1 8 (replicate 8 (negsuc 32767) ∷ []) .totals .depth ≡ 3
-  -- row −3, 5, 7, −1: among equal depths the symbol decides, then the exponent; of a positive and a negative term the positive one is the first operand; depth 3
+  -- row −3, 5, 7, −1: among equal depths the symbol decides, then the exponent; of a positive and a negative term the positive one is
+  -- the first operand; depth 3
   pub compiled-joins : netlistFor 1 4 sevenTerms .operations ≡ sixJoins
   pub output-joins : netlistFor 1 4 sevenTerms .outputs ≡ lastJoin ∷ []
   pub depth-joins : netlistFor 1 4 sevenTerms .totals .depth ≡ 3
