@@ -7,9 +7,10 @@
  * may add numbers to an answer, which changes the raw functions' parameters and leaves the source of callers valid.
  * A call lent anything at all ends, reads only what is lent, and writes only the buffer or outputs lent.
  *
- * What the caller owes: no pointer is NULL, also where a length is 0; each is aligned and valid for its length, which counts
- * bytes, samples or outputs; what is lent to be written overlaps nothing else that is lent to the same call; and nobody else
- * writes what is lent while the call runs.
+ * What the caller owes: each pointer is aligned and valid for its length, which counts bytes, samples or outputs; what is lent
+ * to be written overlaps nothing else that is lent to the same call; and nobody else writes what is lent while the call runs.
+ * A call may be lent NULL where the length is 0, as an empty file, an empty std::vector or malloc(0) may give it; a raw function
+ * never.
  * A call keeps no pointer and uses no memory but its stack: a stack of 128 KB was enough for compile, and 48 KB for the others.
  */
 #ifndef ZAATARLOFT_H
@@ -35,7 +36,7 @@ static inline const char *zaatarloft_refusal_words(uint8_t refusal)
 {
     switch (refusal) {
     case 1: /* place 0 */
-        return "fewer than 6 matrix bytes";
+        return "one to five matrix bytes";
     case 2: /* place 0 */
         return "the matrix's length field differs from the number of bytes lent";
     case 3: /* place 0 */
@@ -96,7 +97,17 @@ uint8_t zaatarloft_raw_step(const uint8_t *bytes, size_t bytes_length, size_t at
 uint8_t zaatarloft_raw_generate(uint8_t m, uint8_t n, uint32_t seed, uint8_t *buffer, size_t buffer_length, size_t *place,
                                 size_t *written);
 
-/* ---- The calls */
+/* ---- The calls
+ *
+ * Where a length is 0, they lend the raw functions a place of their own, which nobody reads or writes, and not the pointer that
+ * they are given. */
+
+/* The pointer to lend for bytes that are only read. */
+static inline const uint8_t *zaatarloft_lent(const uint8_t *bytes, size_t length)
+{
+    static const uint8_t none = 0;
+    return length == 0 ? &none : bytes;
+}
 
 struct zaatarloft_compiled {
     uint8_t refusal;
@@ -111,14 +122,16 @@ struct zaatarloft_compiled {
 };
 
 /* From a matrix record to its netlist, in the first `written` bytes of the buffer; the bytes behind them, and all where it
- * refuses, stay as they were. Refusals 1 to 6. */
+ * refuses, stay as they were. No matrix bytes mean a bank of no rows and no inputs. Refusals 1 to 6. */
 static inline struct zaatarloft_compiled zaatarloft_compile(const uint8_t *matrix, size_t matrix_length, uint8_t *buffer,
                                                             size_t buffer_length)
 {
+    uint8_t none = 0;
     struct zaatarloft_compiled answer;
-    answer.refusal = zaatarloft_raw_compile(matrix, matrix_length, buffer, buffer_length, &answer.place, &answer.written,
-                                            &answer.operations, &answer.plain, &answer.divisors, &answer.replacements,
-                                            &answer.depth, &answer.negated);
+    answer.refusal = zaatarloft_raw_compile(zaatarloft_lent(matrix, matrix_length), matrix_length,
+                                            buffer_length == 0 ? &none : buffer, buffer_length, &answer.place,
+                                            &answer.written, &answer.operations, &answer.plain, &answer.divisors,
+                                            &answer.replacements, &answer.depth, &answer.negated);
     return answer;
 }
 
@@ -135,8 +148,8 @@ struct zaatarloft_netlist {
 static inline struct zaatarloft_netlist zaatarloft_read(const uint8_t *netlist, size_t netlist_length)
 {
     struct zaatarloft_netlist answer;
-    answer.refusal = zaatarloft_raw_read(netlist, netlist_length, &answer.place, &answer.m, &answer.n, &answer.operations,
-                                         &answer.depth);
+    answer.refusal = zaatarloft_raw_read(zaatarloft_lent(netlist, netlist_length), netlist_length, &answer.place, &answer.m,
+                                         &answer.n, &answer.operations, &answer.depth);
     return answer;
 }
 
@@ -150,7 +163,8 @@ static inline struct zaatarloft_checked zaatarloft_check(const uint8_t *matrix, 
                                                          size_t netlist_length)
 {
     struct zaatarloft_checked answer;
-    answer.refusal = zaatarloft_raw_check(matrix, matrix_length, netlist, netlist_length, &answer.place);
+    answer.refusal = zaatarloft_raw_check(zaatarloft_lent(matrix, matrix_length), matrix_length,
+                                          zaatarloft_lent(netlist, netlist_length), netlist_length, &answer.place);
     return answer;
 }
 
@@ -163,9 +177,12 @@ struct zaatarloft_ran {
 static inline struct zaatarloft_ran zaatarloft_run(const uint8_t *netlist, size_t netlist_length, const int16_t *samples,
                                                    size_t samples_length, int64_t *outputs, size_t outputs_length)
 {
+    int16_t no_sample = 0;
+    int64_t no_output = 0;
     struct zaatarloft_ran answer;
-    answer.refusal = zaatarloft_raw_run(netlist, netlist_length, samples, samples_length, outputs, outputs_length,
-                                        &answer.place);
+    answer.refusal = zaatarloft_raw_run(zaatarloft_lent(netlist, netlist_length), netlist_length,
+                                        samples_length == 0 ? &no_sample : samples, samples_length,
+                                        outputs_length == 0 ? &no_output : outputs, outputs_length, &answer.place);
     return answer;
 }
 
@@ -179,11 +196,12 @@ struct zaatarloft_record {
 };
 
 /* The record at a place, for any bytes and any place. Refusals 7, and 8 for a length below 4, at the place given and with an
- * empty payload. */
+ * empty payload, which starts where the lent bytes do. */
 static inline struct zaatarloft_record zaatarloft_step(const uint8_t *bytes, size_t bytes_length, size_t at)
 {
     struct zaatarloft_record answer;
-    answer.refusal = zaatarloft_raw_step(bytes, bytes_length, at, &answer.place, &answer.kind, &answer.next);
+    answer.refusal = zaatarloft_raw_step(zaatarloft_lent(bytes, bytes_length), bytes_length, at, &answer.place, &answer.kind,
+                                         &answer.next);
     answer.payload = bytes;
     answer.payload_length = 0;
     if (answer.refusal == 0) {
@@ -204,8 +222,10 @@ struct zaatarloft_generated {
 static inline struct zaatarloft_generated zaatarloft_generate(uint8_t m, uint8_t n, uint32_t seed, uint8_t *buffer,
                                                               size_t buffer_length)
 {
+    uint8_t none = 0;
     struct zaatarloft_generated answer;
-    answer.refusal = zaatarloft_raw_generate(m, n, seed, buffer, buffer_length, &answer.place, &answer.written);
+    answer.refusal = zaatarloft_raw_generate(m, n, seed, buffer_length == 0 ? &none : buffer, buffer_length, &answer.place,
+                                             &answer.written);
     return answer;
 }
 

@@ -101,7 +101,15 @@ fn accepted<T>(number: u8, place: usize, answer: T) -> Result<T, Refusal> {
 }
 
 /// From a matrix record to its netlist, at the start of the buffer; 6,136 bytes always suffice. Refusals 1 to 6, which leave
-/// the buffer as it was.
+/// the buffer as it was. No bytes are a bank of no rows and no inputs:
+///
+/// ```
+/// let mut buffer = [0; 16];
+/// assert_eq!(zaatarloft::compile(&[], &mut buffer)?.written, 16);
+/// zaatarloft::check(&[], &buffer)?;
+/// zaatarloft::run(&buffer, &[], &mut [])?;
+/// # Ok::<(), zaatarloft::Refusal>(())
+/// ```
 pub fn compile(matrix: &[u8], buffer: &mut [u8]) -> Result<Compiled, Refusal> {
     let mut place = 0;
     let mut compiled = Compiled {
@@ -113,7 +121,8 @@ pub fn compile(matrix: &[u8], buffer: &mut [u8]) -> Result<Compiled, Refusal> {
         depth: 0,
         negated: 0,
     };
-    // SAFETY: both slices are valid for their lengths, the buffer for writes, and all references are to distinct numbers.
+    // SAFETY: both slices are valid for their lengths, the buffer for writes, and all references are to distinct numbers. A
+    // slice's pointer is aligned and not null, here and in the calls below, also where the slice is empty.
     let number = unsafe {
         raw::zaatarloft_raw_compile(
             matrix.as_ptr(),

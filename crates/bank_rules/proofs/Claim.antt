@@ -10,7 +10,6 @@ use lib.ListN.{length, getD, drop}
 use lib.Seq.{take-append-seam}
 use Rattle.limits.specs.Limits.{positions, sampleWidth, maxOperations}
 use Rattle.limits.proofs.Numbers.{compiled-narrower}
-use Rattle.limits.proofs.Size.{size-inside}
 use Rattle.elimination_rules.specs.declared.Divisor.{Divisor}
 use Rattle.elimination_rules.specs.Rows.{Row, matrixRows}
 use Rattle.elimination_rules.specs.Divisors.{Pair, occurrences}
@@ -21,7 +20,7 @@ use Rattle.elimination_rules.proofs.Elimination.{steps-of, remaining-overlap}
 use Rattle.layout_rules.specs.Matrix.{matrixRefusal, matrix, rows, columns}
 use Rattle.layout_rules.specs.Records.{Netlist}
 use Rattle.layout_rules.specs.Places.{enoughBytes}
-use Rattle.layout_rules.proofs.MatrixRefusal.{AcceptedMatrix, accepted-matrix, none}
+use Rattle.layout_rules.proofs.MatrixRefusal.{matrix-accepted}
 use Rattle.board_rules.specs.Width.{Samples}
 use Rattle.board_rules.specs.Netlist.{IsNetlist}
 use Rattle.board_rules.proofs.NetlistLaws.{Wider, netlist-wider}
@@ -46,19 +45,10 @@ use Rattle.bank_rules.specs.Claim.{MatrixWithinLimits, Given, bytesWritt
 
 module _ (bytes : List ℕ) where
   pub not-refused : MatrixWithinLimits bytes → matrixRefusal bytes ≡ 0
-  not-refused w =
-      sym (none bytes (omega (arith, w .size)) (w .counted) (w .kind) (size-inside (rows bytes) (columns bytes) (w .limits)) (w .size))
+  not-refused w = matrix-accepted bytes .1 (w .within)
 
   pub within-limits : ((i : ℕ) → getD bytes i 0 < 256) → matrixRefusal bytes ≡ 0 → MatrixWithinLimits bytes
-  within-limits all e =
-      let a : AcceptedMatrix bytes = accepted-matrix bytes e in
-      record {
-        are-bytes = all;
-        counted = a .counted;
-        kind = a .kind;
-        limits = a .limits;
-        size = a .size;
-      }
+  within-limits all e = record { are-bytes = all; within = matrix-accepted bytes .0 e }
 
 -- ---- a compiled netlist is a netlist as read takes it: read's limits are wider
 

@@ -1,9 +1,10 @@
--- The claim at work: document 01's row 3, −3, a buffer of just 49 bytes, the steepest two samples, one output. What is asked can be met,
--- and the output follows.
+-- The claim at work: document 01's row 3, −3, a buffer of just 49 bytes, the steepest two samples, one output; and no bytes, a buffer of
+-- just 16, no samples, no outputs. What is asked can be met, and the outputs follow.
 -- Assumes nothing.
 use Prim.Native.Nat.{ℕ, zero, suc, _≤_, _<_}
 use mathlib.Core.Path.{_≡_, refl, ap}
 use mathlib.Core.List.{List, [], _∷_}
+use mathlib.Core.Logic.{inl, inr}
 use native.Mathlib.Omega.{arith}
 use lib.IntN.{ℤ, pos, negsuc}
 use lib.ListN.{length, getD, replicate}
@@ -45,10 +46,12 @@ given : (output : ℤ) → Given threeMinusThreeRecord buffer steep (output ∷ 
 given output = record {
   within-limits = record {
     are-bytes = are-bytes;
-    counted = refl;
-    kind = refl;
-    limits = record { rows-least = omega arith; rows-most = omega arith; columns-least = omega arith; columns-most = omega arith };
-    size = refl;
+    within = inr (record {
+      counted = refl;
+      kind = refl;
+      limits = record { rows-least = omega arith; rows-most = omega arith; columns-least = omega arith; columns-most = omega arith };
+      size = refl;
+    });
   };
   long-enough = omega (arith, ap length (marked-banks .bytes-three));
   vector = record { count = refl; within = steep-within };
@@ -59,3 +62,15 @@ given output = record {
 pub steep-output : (output : ℤ) → outputsAfter threeMinusThreeRecord buffer steep (output ∷ []) ≡ pos 196605 ∷ []
 unfolding matrix rowsFrom coefficientsFrom coefficientAt signedWord times
 steep-output output = claim-holds threeMinusThreeRecord buffer steep (output ∷ []) (given output) .row-times-vector
+
+given-none : Given [] (replicate 16 0) [] []
+given-none = record {
+  within-limits = record { are-bytes = λ i. omega arith; within = inl refl };
+  long-enough = omega (arith, ap length (marked-banks .bytes-none));
+  vector = record { count = refl; within = λ j h. absurd (omega arith) };
+  one-per-row = refl;
+}
+
+pub no-outputs : outputsAfter [] (replicate 16 0) [] [] ≡ []
+unfolding matrix rowsFrom
+no-outputs = claim-holds [] (replicate 16 0) [] [] given-none .row-times-vector

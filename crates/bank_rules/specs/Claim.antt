@@ -4,11 +4,11 @@
 use Prim.Native.Nat.{ℕ, _+_, _-_, _≤_, _<_}
 use mathlib.Core.Path.{_≡_}
 use mathlib.Core.Bool.{true}
+use mathlib.Core.Logic.{_⊎_}
 use mathlib.Core.List.{List, [], _∷_, _++_, map, List·Memᴰ}
 use lib.IntN.{ℤ}
 use lib.ListN.{length, getD, take}
 use Rattle.limits.specs.Limits.{positions, sampleWidth}
-use Rattle.limits.specs.Size.{SizeLimits}
 use Rattle.elimination_rules.specs.declared.Divisor.{Divisor}
 use Rattle.elimination_rules.specs.Rows.{matrixRows, plainCount}
 use Rattle.elimination_rules.specs.Divisors.{Pair, occurrences, overlap}
@@ -16,8 +16,7 @@ use Rattle.elimination_rules.specs.Elimination.{Eliminated, matrixElimination}
 use Rattle.elimination_rules.specs.Steps.{Steps}
 use Rattle.layout_rules.specs.declared.Operation.{Operation}
 use Rattle.layout_rules.specs.declared.Output.{Output}
-use Rattle.layout_rules.specs.Bytes.{word}
-use Rattle.layout_rules.specs.Matrix.{matrixKind, rows, columns, matrixLength, matrix}
+use Rattle.layout_rules.specs.Matrix.{rows, columns, IsMatrixRecord, matrix}
 use Rattle.layout_rules.specs.Records.{Netlist}
 use Rattle.board_rules.specs.Machine.{machine, entryAt, outputValue, times}
 use Rattle.board_rules.specs.Width.{Within, Samples}
@@ -30,17 +29,11 @@ use Rattle.bank_rules.specs.declared.Answers.{Answers}
 
 -- ---- what is given
 
--- document 01, "Matrix record": "Such a matrix is within the limits."
+-- document 01, "Matrix record": "Such a matrix is within the limits."; "No bytes mean a bank of no rows and no inputs, also within the limits"
 pub record MatrixWithinLimits (bytes : List ℕ) : Type 0 where
   -- each is below 256 (past the end 0 is read)
   pub are-bytes : (i : ℕ) → getD bytes i 0 < 256
-  -- "length (2 bytes, little-endian, counting the whole record), kind (2 bytes, little-endian)"; "Kind 1, matrix"
-  pub counted : word bytes 0 ≡ length bytes
-  pub kind : word bytes 2 ≡ matrixKind
-  -- "m (1 byte), n (1 byte), each 1 to 8"
-  pub limits : SizeLimits (rows bytes) (columns bytes)
-  -- "Length 6 + 2 times m times n. Every coefficient is allowed."
-  pub size : length bytes ≡ matrixLength (rows bytes) (columns bytes)
+  pub within : (bytes ≡ []) ⊎ IsMatrixRecord bytes
 
 pub record Given (matrixBytes buffer : List ℕ) (samples outputs : List ℤ) : Type 0 where
   -- "for every matrix within the limits"

@@ -19,4 +19,4 @@ use Rattle.bank_text.specs.Marked.{MarkedTable}
 
 pub marked-table : MarkedTable
 unfolding xor matrixRows plainCount matrixElimination matrixRefusal matrix rowsFrom coefficientsFrom coefficientAt signedWord entryForm outputForm depth width signField sumOperations sumOutputs operationsOf outputsOf withWidths netlistOf decimal number countsLine operationLine valueText lines bankText
-marked-table = record { banks = marked-banks; lines = marked; printed = refl; printed-refusal = refl }
+marked-table = record { banks = marked-banks; lines = marked; printed = refl; printed-none = refl; printed-refusal = refl }

@@ -4,9 +4,9 @@ use Prim.Native.Nat.{ℕ, suc, _+_, _≤_}
 use mathlib.Core.Path.{_≡_, sym, ap, ap₂, _∙_, subst}
 use mathlib.Core.List.{List, _++_}
 use native.Mathlib.Omega.{arith}
-use lib.ListN.{length, getD, drop, length-append}
+use lib.ListN.{length, drop, length-append}
 use Rattle.limits.specs.Limits.{maxOperations}
-use Rattle.layout_rules.specs.Matrix.{matrixRefusal, rows}
+use Rattle.layout_rules.specs.Matrix.{matrixRefusal, rows, columns}
 use Rattle.layout_rules.specs.Records.{headLength}
 use Rattle.layout_rules.specs.Places.{outputPlace, enoughBytes}
 use Rattle.layout_rules.proofs.LittleEndian.{AreBytes}
@@ -21,12 +21,12 @@ use Rattle.listing_rules.specs.Records.{listingOf}
 use Rattle.listing_rules.proofs.Records.{listing-of-netlist}
 use Rattle.bank_text.specs.BankText.{countsOf, bankText}
 
--- the counts that an answer and the matrix's m and n give
-abbrev pub countsFrom : List ℕ → CompileAnswer → Counts
-countsFrom bytes a =
+-- the counts that n, m and an answer give
+abbrev pub countsFrom : ℕ → ℕ → CompileAnswer → Counts
+countsFrom n m a =
     record {
-      inputs = getD bytes 5 0;
-      outputs = getD bytes 4 0;
+      inputs = n;
+      outputs = m;
       operations = a .operations;
       plain = a .plain;
       divisors = a .divisors;
@@ -79,9 +79,10 @@ module _ (bytes : List ℕ) (all : AreBytes bytes) (old after : List ℕ) (answe
       ap (λ (a : CompileAnswer). a .operations) takes,
     )
 
-    pub text-accepted : listingOf (countsFrom bytes answer) after ≡ bankText bytes
+    pub text-accepted : (n m : ℕ) → n ≡ columns bytes → m ≡ rows bytes → listingOf (countsFrom n m answer) after ≡ bankText bytes
     unfolding netlistOf
-    text-accepted =
-        ap₂ (λ (a : CompileAnswer) (b : List ℕ). listingOf (countsFrom bytes a) b) takes written
+    text-accepted n m same-columns same-rows =
+        ap₂ (λ (n m : ℕ). listingOf (countsFrom n m answer) after) same-columns same-rows
+        ∙ ap₂ (λ (a : CompileAnswer) (b : List ℕ). listingOf (countsFrom (columns bytes) (rows bytes) a) b) takes written
         ∙ listing-of-netlist (compiledNetlist bytes) (countsOf bytes) behind (sym (compiled-is bytes all taken .count)) (sym (compiled-is bytes all taken .one-per-row))
         ∙ accepted-text bytes taken

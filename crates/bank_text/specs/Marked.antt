@@ -1,7 +1,8 @@
--- Document 01, "Marked banks", as one table: the banks of `compile_rules`, and what list-bank prints for row 3, −3.
+-- Document 01, "Marked banks", as one table: the banks of `compile_rules`, and what list-bank prints for row 3, −3, for no bytes and for
+-- one byte.
 -- Assumes nothing.
 use mathlib.Core.Path.{_≡_}
-use mathlib.Core.List.{[]}
+use mathlib.Core.List.{[], _∷_}
 use Rattle.compile_rules.specs.Marked.{MarkedBanks, threeMinusThreeRecord}
 use Rattle.text.specs.Text.{ascii}
 use Rattle.listing_rules.specs.Marked.{MarkedListing}
@@ -12,4 +13,5 @@ pub record MarkedTable : Type 0 where
   pub lines : MarkedListing
   pub printed : bankText threeMinusThreeRecord
       ≡ ascii "inputs 2 outputs 1 operations 2 plain 3 divisors 1 replacements 2 depth 2\n2 = 0<<0 - 1<<0 width 17\n3 = 2<<2 - 2<<0 width 19\nrow 0 = 3<<0 width 19\n"
-  pub printed-refusal : bankText [] ≡ ascii "refused 1 at 0\n"
+  pub printed-none : bankText [] ≡ ascii "inputs 0 outputs 0 operations 0 plain 0 divisors 0 replacements 0 depth 0\n"
+  pub printed-refusal : bankText (0x06 ∷ []) ≡ ascii "refused 1 at 0\n"

@@ -28,8 +28,8 @@ fn write_text(matrix: &[u8], text: &mut [u8]) -> usize
         return text::write_refused(answer.refusal, answer.place, text);
     }
     let counts = Counts {
-        inputs: matrix[5] as u16,
-        outputs: matrix[4] as u16,
+        inputs: layout_matrix::column_count(matrix) as u16,
+        outputs: layout_matrix::row_count(matrix) as u16,
         operations: answer.operations,
         plain: answer.plain,
         divisors: answer.divisors,

@@ -39,7 +39,7 @@ module _ {l k : Limits} (w : Wider l k) where
 
   pub netlist-wider : {net : Netlist} → IsNetlist l net → IsNetlist k net
   netlist-wider is = record {
-    head = record { limits = is .head .limits; few = omega (arith, is .head .few, w .more-operations) };
+    head = record { limits = is .head .limits; few = omega (arith, is .head .few, w .more-operations); none = is .head .none };
     count = is .count;
     one-per-row = is .one-per-row;
     operation = λ before after o e.

@@ -30,7 +30,7 @@ use Rattle.compile_rules.proofs.Counts.{length-outputs, negated-with-widths, ne
 use Rattle.compile_rules.proofs.Operands.{EachOperation, OperationsInRange, operations-in-range, EachOutput, OutputsInRange, outputs-in-range}
 use Rattle.compile_rules.proofs.Netlist.{Narrow, operation-at, output-at}
 use Rattle.compile_rules.proofs.Narrow.{narrow}
-use Rattle.compile_rules.proofs.Compiled.{limits, answer-refused, buffer-refused}
+use Rattle.compile_rules.proofs.Compiled.{limits, compiled-inputs, answer-refused, buffer-refused}
 use Rattle.compile_plan.proofs.PlanLaws.{within, limited, stepped, operations-most}
 
 -- ---- from each one to the one at an index
@@ -71,7 +71,7 @@ module _ (bytes : List ℕ) (all : AreBytes bytes) (accepted : matrixRefusal byt
   }
 
   outputs-within : OutputsInRange compiledLimits (n + length (operationsOf n e)) (outputsOf n e)
-  outputs-within = outputs-in-range compiledLimits n first e (omega arith) (within bytes all accepted .limits .columns-least) (matrix-well-formed positions n (matrix bytes) (limited bytes all accepted)) (stepped bytes all accepted)
+  outputs-within = outputs-in-range compiledLimits n first e (omega arith) (compiled-inputs bytes all accepted) (matrix-well-formed positions n (matrix bytes) (limited bytes all accepted)) (stepped bytes all accepted)
 
   pub earlier-outputs : EarlierOutputs compiledLimits (columns bytes) (operationsOf (columns bytes) (eliminationOf bytes)) (outputsOf (columns bytes) (eliminationOf bytes))
   earlier-outputs i h = output-index (OutputOperand compiledLimits (n + length (operationsOf n e))) (outputsOf n e) outputs-within i h
@@ -117,10 +117,11 @@ unfolding netlistOf
 accepted-is bytes size operations plain divisors replacements deep negated a b c d f g h =
     rw (a, b, c, d, f, g, h, negated-with-widths sampleWidth (columns bytes) (operationsOf (columns bytes) (eliminationOf bytes)) (outputsOf (columns bytes) (eliminationOf bytes)))
 
-pub buffer-is : (bytes buffer : List ℕ) (os : List Operation) (outputs : List Output)
+pub buffer-is : (bytes buffer : List ℕ) (m n : ℕ) (os : List Operation) (outputs : List Output) → m ≡ rows bytes → n ≡ columns bytes
     → os ≡ operationsOf (columns bytes) (eliminationOf bytes) → outputs ≡ outputsOf (columns bytes) (eliminationOf bytes)
-    → written buffer 0 (netlistBytes (recordedNetlist sampleWidth (rows bytes) (columns bytes) os outputs)) ≡ compiledBytes bytes ++ drop (length (compiledBytes bytes)) buffer
-buffer-is bytes buffer os outputs a b =
-    ap₂ (λ (ps : List Operation) (us : List Output). written buffer 0 (netlistBytes (recordedNetlist sampleWidth (rows bytes) (columns bytes) ps us))) a b
+    → written buffer 0 (netlistBytes (recordedNetlist sampleWidth m n os outputs)) ≡ compiledBytes bytes ++ drop (length (compiledBytes bytes)) buffer
+buffer-is bytes buffer m n os outputs a b c d =
+    ap₂ (λ (m n : ℕ). written buffer 0 (netlistBytes (recordedNetlist sampleWidth m n os outputs))) a b
+    ∙ ap₂ (λ (ps : List Operation) (us : List Output). written buffer 0 (netlistBytes (recordedNetlist sampleWidth (rows bytes) (columns bytes) ps us))) c d
     ∙ ap (λ (net : Netlist). written buffer 0 (netlistBytes net)) (netlist-is bytes)
     ∙ ap (λ (k : ℕ). compiledBytes bytes ++ drop k buffer) (zero-add (length (compiledBytes bytes)))

@@ -25,7 +25,7 @@ fn negated_count(outputs: Outputs) -> u16
     negated
 }
 
-// From a matrix record to its netlist, at the start of the lent buffer. Nothing is written before it is known that all of it fits.
+// From a matrix record, or no bytes, to its netlist, at the start of the lent buffer. Nothing is written before it is known that all of it fits.
 pub fn compile(matrix: &[u8], buffer: &mut [u8]) -> CompileAnswer
     ensures { λ r. ⌜ r ≡ compileAnswer (now (matrix .entry)) (length (now (buffer .entry))) ⌝ }
     ensures { λ _. ⌜ now (buffer .exit) ≡ compileBuffer (now (matrix .entry)) (now (buffer .entry)) ⌝ }
@@ -42,7 +42,9 @@ pub fn compile(matrix: &[u8], buffer: &mut [u8]) -> CompileAnswer
     if buffer.len() < size {
         return CompileAnswer::refused(6);
     }
-    let depth = write_netlist(buffer, operations, outputs, matrix[4], matrix[5]);
+    let m = layout_matrix::row_count(matrix);
+    let n = layout_matrix::column_count(matrix);
+    let depth = write_netlist(buffer, operations, outputs, m, n);
     CompileAnswer {
         refusal: 0,
         place: 0,

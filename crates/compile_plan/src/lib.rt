@@ -1,6 +1,6 @@
 // Document 01, "Elimination" and "Netlist and board machine": the operations and outputs of a matrix record, without widths, and what
 // compile counts. Rests on `elimination_state`, `compile_sums` and `layout_matrix`.
-pub mod rows; // rows.rt: the rows of a matrix record
+pub mod rows; // rows.rt: the rows of a matrix
 pub mod eliminated; // eliminated.rt: elimination
 
 use compile_lists::operations::Operations;
@@ -17,14 +17,13 @@ pub struct Planned {
     pub replacements: usize,
 }
 
-// Of a record that is not declined.
+// Of bytes that are not declined.
 pub fn plan(matrix: &[u8]) -> Planned
     requires { ⌜ matrixRefusal (now matrix) ≡ 0 ⌝ }
     ensures { λ r. ⌜ PlannedOf (now (matrix .entry)) r ⌝ }
 {
-    let m = matrix[4] as usize;
-    let n = matrix[5] as usize;
-    let first = rows::matrix_rows(matrix, m, n);
+    let n = layout_matrix::column_count(matrix) as usize;
+    let first = rows::matrix_rows(matrix);
     let plain = compile_sums::plain_count(first);
     let mut keys = elimination_kept::blank_keys();
     let mut scores = elimination_kept::blank_scores();

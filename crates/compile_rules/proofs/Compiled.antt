@@ -9,6 +9,7 @@ use lib.IntN.{ℤ}
 use lib.ListN.{length, drop}
 use borrow.Author.Tests.{lt-ltb, le-ltb}
 use Rattle.limits.specs.Limits.{positions, sampleWidth, maxOperations, columnBits}
+use Rattle.limits.proofs.Size.{rows-have-inputs}
 use Rattle.limits.proofs.Numbers.{columns-in-bits}
 use Rattle.layout_rules.specs.declared.Operation.{Operation}
 use Rattle.layout_rules.specs.declared.Output.{Output}
@@ -93,6 +94,10 @@ module _ (bytes : List ℕ) (all : AreBytes bytes) (accepted : matrixRefusal byt
 
   compiled-rows : length (matrixRows positions (matrix bytes)) ≡ rows bytes
   compiled-rows = length-matrix-rows positions (matrix bytes) ∙ limits .one-per-row
+
+  -- where there are rows, there are inputs
+  pub compiled-inputs : 1 ≤ length (matrixRows positions (matrix bytes)) → 1 ≤ columns bytes
+  compiled-inputs h = rows-have-inputs (rows bytes) (columns bytes) (limits .limits) (omega (arith, compiled-rows))
 
   pub compiled-answer : AcceptedAnswer (rows bytes) maxOperations (compileAccepted bytes)
   unfolding netlistOf

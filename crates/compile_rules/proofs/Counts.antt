@@ -46,9 +46,15 @@ operations-count n rows e s = omega (arith, length-operations n e, steps-operati
 pub operations-fewer : (n : ℕ) (rows : List Row) (e : Eliminated) → Stepped n rows e → length (operationsOf n e) + length (e .divisors) ≤ plainCount rows
 operations-fewer n rows e s = omega (arith, operations-count n rows e s, steps-twice s)
 
+-- a bank of no rows has no operations
+pub no-operations : (n : ℕ) (rows : List Row) (e : Eliminated) → Stepped n rows e → length rows ≡ 0 → length (operationsOf n e) ≡ 0
+unfolding plainCount
+no-operations n [] e s h = omega (arith, operations-fewer n [] e s)
+no-operations n (r ∷ rows) e s h = absurd (omega (arith, h))
+
 -- ---- outputs: one for each row
 
-steps-rows : {symbol : ℕ} {rows : List Row} {ds : List Divisor} {k : ℕ} {after : List Row} → Steps symbol rows ds k after → length after ≡ length rows
+pub steps-rows : {symbol : ℕ} {rows : List Row} {ds : List Divisor} {k : ℕ} {after : List Row} → Steps symbol rows ds k after → length after ≡ length rows
 steps-rows end = refl
 steps-rows {symbol} {rows} (step d h more) = steps-rows more ∙ length-rows-after symbol d rows
 

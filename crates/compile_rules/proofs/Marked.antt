@@ -42,4 +42,6 @@ marked-banks = record {
   compiled-shallower = refl;
   bytes-three = refl;
   answer-three = refl;
+  bytes-none = refl;
+  answer-none = refl;
 }

@@ -6,7 +6,8 @@ use mathlib.Core.Path.{_≡_, refl, sym, ap, _∙_, subst}
 use mathlib.Core.List.{List, [], _∷_, _++_, map}
 use native.Mathlib.Omega.{arith}
 use lib.ListN.{length}
-use Rattle.limits.specs.Size.{SizeLimits}
+use Rattle.limits.specs.Size.{BankSize}
+use Rattle.limits.proofs.Size.{rows-have-inputs}
 use Rattle.layout_rules.specs.declared.Operation.{Operation}
 use Rattle.layout_rules.specs.declared.Output.{Output}
 use Rattle.board_rules.specs.Machine.{machine, entryAt, entryForm, outputForm}
@@ -16,7 +17,7 @@ use Rattle.board_rules.proofs.OutputLaws.{zero-output-width}
 use Rattle.elimination_rules.specs.Rows.{Row, WellFormed, EachRow, plainCount}
 use Rattle.elimination_rules.specs.Elimination.{Eliminated}
 use Rattle.compile_rules.specs.Compile.{operationsOf, outputsOf, withWidths, outputWithWidth, netlistOf}
-use Rattle.compile_rules.proofs.Counts.{Stepped, operations-fewer, netlist-operations, netlist-outputs, length-with-widths}
+use Rattle.compile_rules.proofs.Counts.{Stepped, operations-fewer, no-operations, netlist-operations, netlist-outputs, length-with-widths}
 use Rattle.compile_rules.proofs.Operands.{EachOperation, operations-in-range, EachOutput, outputs-in-range}
 use Rattle.compile_rules.proofs.Widths.{depth-with-widths, each-with-width, each-output-with-width, operation-width, output-width}
 
@@ -78,7 +79,7 @@ module _ (l : Limits) (n : ℕ) (rows : List Row) (e : Eliminated) (some : 1 ≤
       ))
       n os (omega arith) (operations-in-range l n rows e some w steps)
 
-  outputs-compiled : 1 ≤ n → EachOutput (IsOutput l n recorded) (map (outputWithWidth (l .sample) n (operationsOf n e)) (outputsOf n e))
+  outputs-compiled : (1 ≤ length rows → 1 ≤ n) → EachOutput (IsOutput l n recorded) (map (outputWithWidth (l .sample) n (operationsOf n e)) (outputsOf n e))
   unfolding recorded
   outputs-compiled inputs =
       let os : List Operation = operationsOf n e in
@@ -99,16 +100,21 @@ module _ (l : Limits) (n : ℕ) (rows : List Row) (e : Eliminated) (some : 1 ≤
       (both-outputs (OutputOperand l (n + length os)) (λ o. width (l .sample) (outputForm n os o) ≤ l .widest) (outputsOf n e)
       (outputs-in-range l n rows e some inputs w steps) (narrow .outputs))
 
-  pub compiled-netlist : (m : ℕ) → SizeLimits m n → length rows ≡ m → plainCount rows ≤ l .most → IsNetlist l (netlistOf (l .sample) m n e)
+  pub compiled-netlist : (m : ℕ) → BankSize m n → length rows ≡ m → plainCount rows ≤ l .most → IsNetlist l (netlistOf (l .sample) m n e)
   unfolding netlistOf recorded
   compiled-netlist m size one-per-row plain = record {
-    head = record { limits = size; few = omega (arith, operations-fewer n rows e steps) };
+    head = record {
+      limits = size;
+      few = omega (arith, operations-fewer n rows e steps);
+      none = λ z. no-operations n rows e steps (one-per-row ∙ z);
+    };
     count = netlist-operations (l .sample) m n e;
     one-per-row = netlist-outputs (l .sample) m n rows e steps ∙ one-per-row;
     operation = λ before after o h.
         let is = operation-at Compiled n recorded before after o operations-compiled h in
         record { limits = is .0; width = is .1 };
     output = λ before after o h.
-        output-at (IsOutput l n recorded) (map (outputWithWidth (l .sample) n (operationsOf n e)) (outputsOf n e)) before after o (outputs-compiled (size .columns-least)) h;
+        output-at (IsOutput l n recorded) (map (outputWithWidth (l .sample) n (operationsOf n e)) (outputsOf n e)) before after o
+        (outputs-compiled (λ k. rows-have-inputs m n size (omega (arith, one-per-row)))) h;
     totals = record { count = refl; deepest = sym (depth-with-widths (l .sample) n (operationsOf n e) n (operationsOf n e)) };
   }

@@ -26,11 +26,11 @@ use Rattle.compile_rules.specs.Compile.{divisorDepths, rowOperations, op
 use Rattle.compile_rules.specs.Compiled.{NoneShallower}
 use Rattle.compile_rules.proofs.Remaining.{length-divisor-depths}
 use Rattle.compile_rules.proofs.Limits.{rows-columns}
-use Rattle.compile_rules.proofs.Counts.{Stepped}
+use Rattle.compile_rules.proofs.Counts.{Stepped, steps-rows}
 use Rattle.compile_rules.proofs.Widths.{depths-with-widths, output-keeps}
-use Rattle.compile_rules.proofs.Compiled.{limits, steps}
+use Rattle.compile_rules.proofs.Compiled.{limits, steps, compiled-inputs}
 
-module _ (p n : ℕ) (rows : List Row) (e : Eliminated) (inputs : 1 ≤ n) (w : EachRow (WellFormed p n) rows) (stepped : Stepped n rows e) where
+module _ (p n : ℕ) (rows : List Row) (e : Eliminated) (inputs : 1 ≤ length rows → 1 ≤ n) (w : EachRow (WellFormed p n) rows) (stepped : Stepped n rows e) where
   abbrev made : List Operation
   made = map divisorOperation (e .divisors)
 
@@ -41,6 +41,9 @@ module _ (p n : ℕ) (rows : List Row) (e : Eliminated) (inputs : 1 ≤ n) (w : 
   known = subst (λ (k : ℕ). EachRow (EachTerm (λ t. t .symbol < k)) (e .remainingRows)) (sym (length-divisor-depths n e))
       (symbols-below p (n + length (e .divisors)) (e .remainingRows) (steps-well-formed p stepped w))
 
+  some : 1 ≤ length (e .remainingRows) → 1 ≤ length ds
+  some h = omega (arith, length-divisor-depths n e, inputs (omega (arith, steps-rows stepped)))
+
   module _ {os : List Operation} {outputs : List Output} (s : SummedRows (n + length (e .divisors)) (e .remainingRows) os outputs) where
     summed : SummedRows (length ds) (e .remainingRows) os outputs
     summed = subst (λ (k : ℕ). SummedRows k (e .remainingRows) os outputs) (sym (length-divisor-depths n e)) s
@@ -48,7 +51,7 @@ module _ (p n : ℕ) (rows : List Row) (e : Eliminated) (inputs : 1 ≤ n) (w : 
     row-depth : (i : ℕ) → outputDepth (replicate n 0) (operationsOf n e) (getD (outputsOf n e) i zeroOutput) ≤ outputDepth (replicate n 0) (made ++ os) (getD outputs i zeroOutput)
     unfolding operationsOf outputsOf
     row-depth i = rw (depths-append (replicate n 0) made (rowOperations n e), depths-append (replicate n 0) made os)
-        (each-row-shallowest orderOfOperands ds (e .remainingRows) (omega (arith, length-divisor-depths n e)) known summed i)
+        (each-row-shallowest orderOfOperands ds (e .remainingRows) some known summed i)
 
     whole-depth : depth n (operationsOf n e) ≤ depth n (made ++ os)
     unfolding depth operationsOf
@@ -57,7 +60,7 @@ module _ (p n : ℕ) (rows : List Row) (e : Eliminated) (inputs : 1 ≤ n) (w : 
 
 -- ---- as recorded, with widths
 
-pub none-shallower : (p s m n : ℕ) (rows : List Row) (e : Eliminated) → 1 ≤ n → EachRow (WellFormed p n) rows → Stepped n rows e → NoneShallower n e (netlistOf s m n e)
+pub none-shallower : (p s m n : ℕ) (rows : List Row) (e : Eliminated) → (1 ≤ length rows → 1 ≤ n) → EachRow (WellFormed p n) rows → Stepped n rows e → NoneShallower n e (netlistOf s m n e)
 unfolding netlistOf
 none-shallower p s m n rows e inputs w stepped =
     let all : List Operation = operationsOf n e in
@@ -71,6 +74,6 @@ pub compiled-none-shallower : (bytes : List ℕ) → AreBytes bytes → matrixRe
 compiled-none-shallower bytes all accepted =
     let within = limits bytes all accepted in
     none-shallower positions sampleWidth (rows bytes) (columns bytes) (matrixRows positions (matrix bytes)) (eliminationOf bytes)
-    (within .limits .columns-least)
+    (compiled-inputs bytes all accepted)
     (matrix-well-formed positions (columns bytes) (matrix bytes) (rows-columns positions (columns bytes) (matrix bytes) (within .coefficients)))
     (steps bytes all accepted)

@@ -22,7 +22,7 @@ use Rattle.sum_rules.specs.Sums.{Summed, nothing, last, join, SummedRows, end, 
 use Rattle.sum_rules.specs.SumDepth.{EachTerm}
 use Rattle.sum_rules.proofs.Sums.{each-permuted, each-term, each-member}
 use Rattle.compile_rules.proofs.Remaining.{remaining-summed}
-use Rattle.compile_rules.proofs.Counts.{Stepped}
+use Rattle.compile_rules.proofs.Counts.{Stepped, steps-rows}
 
 -- ---- all operations from a symbol on
 
@@ -138,31 +138,32 @@ sign-of-output b = omega (arith, sign-in-range b)
 never-zero : {A : Type 0} (b : Bool) → signField b ≡ 2 → A
 never-zero b e = absurd (omega (arith, sign-in-range b))
 
-module _ (l : Limits) (symbols : ℕ) (some : 1 ≤ l .positions) (inputs : 1 ≤ symbols) where
-  summed-output-in-range : {next : ℕ} {r : Row} {os : List Operation} {o : Output} → Summed next r os o → next + length os ≤ symbols → EachTerm (TermWithin (l .positions) next) r
-      → OutputOperand l symbols o
-  summed-output-in-range nothing fits h = record { sign = omega arith; shift = some; symbol = inputs; zero = λ e. (refl, refl) }
-  summed-output-in-range (last t) fits h = record { sign = sign-of-output _; shift = h .0 .0; symbol = omega (arith, h .0 .1); zero = never-zero _ }
-  summed-output-in-range {next} (join t u others p q s) fits h =
-      summed-output-in-range s (omega arith)
+module _ (l : Limits) (symbols : ℕ) (some : 1 ≤ l .positions) where
+  summed-output-in-range : {next : ℕ} {r : Row} {os : List Operation} {o : Output} → Summed next r os o → 1 ≤ symbols → next + length os ≤ symbols
+      → EachTerm (TermWithin (l .positions) next) r → OutputOperand l symbols o
+  summed-output-in-range nothing inputs fits h = record { sign = omega arith; shift = some; symbol = inputs; zero = λ e. (refl, refl) }
+  summed-output-in-range (last t) inputs fits h = record { sign = sign-of-output _; shift = h .0 .0; symbol = omega (arith, h .0 .1); zero = never-zero _ }
+  summed-output-in-range {next} (join t u others p q s) inputs fits h =
+      summed-output-in-range s inputs (omega arith)
       (each-permuted (TermWithin (l .positions) (suc next)) q (after-join l some next t others (each-permuted (TermWithin (l .positions) next) p h .1 .1)))
 
-  summed-outputs-in-range : (limit : ℕ) {next : ℕ} {rows : List Row} {os : List Operation} {outputs : List Output} → SummedRows next rows os outputs → limit ≤ next
-      → next + length os ≤ symbols → EachRow (WellFormed (l .positions) limit) rows → OutputsInRange l symbols outputs
-  summed-outputs-in-range limit end below fits w = tt
-  summed-outputs-in-range limit {next} (first-row {r = r} {os = os} {others = others} s more) below fits w =
+  summed-outputs-in-range : (limit : ℕ) {next : ℕ} {rows : List Row} {os : List Operation} {outputs : List Output} → SummedRows next rows os outputs
+      → (1 ≤ length rows → 1 ≤ symbols) → limit ≤ next → next + length os ≤ symbols → EachRow (WellFormed (l .positions) limit) rows → OutputsInRange l symbols outputs
+  summed-outputs-in-range limit end inputs below fits w = tt
+  summed-outputs-in-range limit {next} (first-row {r = r} {os = os} {others = others} s more) inputs below fits w =
       let both : length (os ++ others) ≡ length os + length others = length-append os others in (
-        summed-output-in-range s (omega arith) (wider (l .positions) limit next below r (terms-within (l .positions) limit r (w .0))),
-        summed-outputs-in-range limit more (omega arith) (omega arith) (w .1),
+        summed-output-in-range s (inputs (omega arith)) (omega arith) (wider (l .positions) limit next below r (terms-within (l .positions) limit r (w .0))),
+        summed-outputs-in-range limit more (λ h. inputs (omega arith)) (omega arith) (omega arith) (w .1),
       )
 
-pub outputs-in-range : (l : Limits) (n : ℕ) (rows : List Row) (e : Eliminated) → 1 ≤ l .positions → 1 ≤ n → EachRow (WellFormed (l .positions) n) rows → Stepped n rows e
+-- where there are rows there are inputs: a zero output has the symbol 0
+pub outputs-in-range : (l : Limits) (n : ℕ) (rows : List Row) (e : Eliminated) → 1 ≤ l .positions → (1 ≤ length rows → 1 ≤ n) → EachRow (WellFormed (l .positions) n) rows → Stepped n rows e
     → OutputsInRange l (n + length (operationsOf n e)) (outputsOf n e)
 unfolding operationsOf
 outputs-in-range l n rows e some inputs w s =
     let next : ℕ = n + length (e .divisors) in
     let made : List Operation = map divisorOperation (e .divisors) in
     let all : ℕ = n + length (made ++ rowOperations n e) in
-    summed-outputs-in-range l all some (omega arith) next (remaining-summed n e) (omega arith)
+    summed-outputs-in-range l all some next (remaining-summed n e) (λ h. omega (arith, inputs (omega (arith, steps-rows s)))) (omega arith)
     (omega (arith, length-append made (rowOperations n e), length-map (e .divisors) divisorOperation))
     (steps-well-formed (l .positions) s w)

@@ -5,7 +5,7 @@ use mathlib.Core.Path.{_≡_}
 use mathlib.Core.List.{List, [], _∷_}
 use lib.IntN.{ℤ}
 use lib.ListN.{length}
-use Rattle.limits.specs.Size.{SizeLimits}
+use Rattle.limits.specs.Size.{BankSize}
 use Rattle.board_rules.specs.Width.{Within}
 
 -- coefficients of so many bits: with 16, from −32,768 to 32,767
@@ -20,6 +20,6 @@ RowsWithin bits n (row ∷ rows) = ((length row ≡ n) × CoefficientsWithin bit
 
 -- m and n are within the limits, and there are m rows of n coefficients
 pub record WithinLimits (bits m n : ℕ) (matrix : List (List ℤ)) : Type 0 where
-  pub limits : SizeLimits m n
+  pub limits : BankSize m n
   pub one-per-row : length matrix ≡ m
   pub coefficients : RowsWithin bits n matrix

@@ -40,6 +40,14 @@ abbrev pub threeMinusThreeAnswer : CompileAnswer
 threeMinusThreeAnswer =
     record { refusal = 0; place = 0; written = 49; operations = 2; plain = 3; divisors = 1; replacements = 2; depth = 2; negated = 0 }
 
+-- the netlist and the answer of no bytes: a head with m, n and operations 0, then totals of 0
+abbrev pub noBankNetlist : List ℕ
+noBankNetlist = 0x08 ∷ 0x00 ∷ 0x02 ∷ 0x00 ∷ 0x00 ∷ 0x00 ∷ 0x00 ∷ 0x00 ∷ 0x08 ∷ 0x00 ∷ 0x05 ∷ 0x00 ∷ 0x00 ∷ 0x00 ∷ 0x00 ∷ 0x00 ∷ []
+
+abbrev pub noBankAnswer : CompileAnswer
+noBankAnswer =
+    record { refusal = 0; place = 0; written = 16; operations = 0; plain = 0; divisors = 0; replacements = 0; depth = 0; negated = 0 }
+
 -- row −3, 5, 7, −1: no divisor, seven terms; 4 = 0<<0 - 0<<2 width 18; 5 = 1<<0 + 1<<2 width 19; 6 = 2<<3 - 2<<0 width 19;
 -- 7 = 4<<0 - 3<<0 width 19; 8 = 5<<0 + 6<<0 width 20; 9 = 7<<0 + 8<<0 width 20; row 0 = 9<<0 width 20
 abbrev pub sevenTerms : List (List ℤ)
@@ -105,3 +113,6 @@ pub record MarkedBanks : Type 0 where
   -- row 3, −3
   pub bytes-three : compiledBytes threeMinusThreeRecord ≡ threeMinusThreeNetlist
   pub answer-three : compileAnswer threeMinusThreeRecord 49 ≡ threeMinusThreeAnswer
+  -- no bytes
+  pub bytes-none : compiledBytes [] ≡ noBankNetlist
+  pub answer-none : compileAnswer [] 16 ≡ noBankAnswer

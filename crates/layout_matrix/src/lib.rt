@@ -1,13 +1,13 @@
-// Document 01, "Matrix record" and "Why a record was declined": the matrix record, as `layout_rules` has it.
+// Document 01, "Matrix record" and "Why a record was declined": the matrix record, and no bytes, as `layout_rules` has them.
 use layout_records::little_endian::word_at;
 use limits::MAX_COLUMNS;
 use limits::MAX_ROWS;
 ghost use mathlib.Core.Path.{_≡_};
 ghost use mathlib.Core.List.{_++_};
 ghost use Prim.Native.Nat.{_+_, _^_, _≤_, _<_};
-ghost use lib.ListN.{length, drop};
+ghost use lib.ListN.{length, drop, getD};
 ghost use Rattle.limits.specs.Size.{SizeLimits};
-ghost use Rattle.layout_rules.specs.Matrix.{matrixRefusal, coefficientAt, coefficientPlace, signedWord};
+ghost use Rattle.layout_rules.specs.Matrix.{rows, columns, matrixRefusal, coefficientAt, coefficientPlace, signedWord};
 ghost use Rattle.layout_matrix.specs.Head.{matrixHead};
 
 const MATRIX_KIND: u16 = 1;
@@ -23,10 +23,37 @@ pub fn coefficient_place(index: usize) -> usize
     6 + 2 * index
 }
 
-// The first of the refusals 1 to 5 that applies, 0 for none.
+// The byte at a place, 0 past the end.
+fn byte_at(bytes: &[u8], place: usize) -> u8
+    ensures { λ r. ⌜ r ≡ getD (now (bytes .entry)) place 0 ⌝ }
+{
+    if place < bytes.len() {
+        return bytes[place];
+    }
+    0
+}
+
+// m; 0 of no bytes.
+pub fn row_count(bytes: &[u8]) -> u8
+    ensures { λ r. ⌜ r ≡ rows (now (bytes .entry)) ⌝ }
+{
+    byte_at(bytes, 4)
+}
+
+// n; 0 of no bytes.
+pub fn column_count(bytes: &[u8]) -> u8
+    ensures { λ r. ⌜ r ≡ columns (now (bytes .entry)) ⌝ }
+{
+    byte_at(bytes, 5)
+}
+
+// The first of the refusals 1 to 5 that applies, 0 for none. No bytes are within the limits.
 pub fn matrix_refusal(bytes: &[u8]) -> u8
     ensures { λ r. ⌜ r ≡ matrixRefusal (now (bytes .entry)) ⌝ }
 {
+    if bytes.len() == 0 {
+        return 0;
+    }
     if bytes.len() < 6 {
         return 1;
     }
@@ -36,8 +63,8 @@ pub fn matrix_refusal(bytes: &[u8]) -> u8
     if word_at(bytes, 2) != MATRIX_KIND {
         return 3;
     }
-    let m = bytes[4];
-    let n = bytes[5];
+    let m = row_count(bytes);
+    let n = column_count(bytes);
     if limits::size_outside(m, n) {
         return 4;
     }

@@ -57,8 +57,8 @@ module _ (b : List ℕ) where
   -- the bytes of each coefficient are there
   pub coefficient-there : AcceptedMatrix b → (i j : ℕ) → i < rows b → j < columns b → coefficientPlace (i * columns b + j) + 1 < length b
   coefficient-there a i j h k =
-      let up-to : 2 * suc i * columns b ≤ 2 * rows b * columns b = mul-le-mul (omega arith) (le-refl (columns b)) in
-      omega arith
+      let up-to : suc i * columns b ≤ rows b * columns b = mul-le-mul h (le-refl (columns b)) in
+      a .there (i * columns b + j) (omega arith)
 
 -- ---- the range of a coefficient
 

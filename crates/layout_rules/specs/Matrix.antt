@@ -1,13 +1,15 @@
--- Document 01, "Matrix record" and "Why a record was declined": a matrix record's bytes, refusals 1 to 5, and the matrix of a record.
+-- Document 01, "Matrix record" and "Why a record was declined": a matrix record's bytes, refusals 1 to 5, and the matrix of a record or of
+-- no bytes.
 -- Assumes nothing.
 use Prim.Native.Nat.{ℕ, zero, suc, _+_, _*_}
+use mathlib.Core.Path.{_≡_}
 use mathlib.Core.Bool.{cond, not}
 use mathlib.Core.List.{List, [], _∷_, flatMap}
 use lib.Dec.{ltb, eqb}
 use lib.IntN.{ℤ, pos, _-ℤ_}
 use lib.ListN.{length, getD}
 use Rattle.limits.specs.Limits.{maxRows, maxColumns}
-use Rattle.limits.specs.Size.{sizeOutside}
+use Rattle.limits.specs.Size.{SizeLimits, sizeOutside}
 use Rattle.layout_rules.specs.Bytes.{littleEndian, word, recordBytes}
 
 -- "Kind 1, matrix"
@@ -19,7 +21,7 @@ matrixKind = 1
 abbrev pub matrixRecord : ℕ → ℕ → List ℕ → List ℕ
 matrixRecord m n words = recordBytes matrixKind (m ∷ n ∷ flatMap littleEndian words)
 
--- m and n, 1 byte each, after length and kind
+-- m and n, 1 byte each, after length and kind; of no bytes 0: "a bank of no rows and no inputs"
 abbrev pub rows : List ℕ → ℕ
 rows bytes = getD bytes 4 0
 
@@ -38,10 +40,22 @@ matrixLength m n = coefficientPlace (m * n)
 abbrev pub longestRecord : ℕ
 longestRecord = matrixLength maxRows maxColumns
 
--- the first of the refusals 1 to 5 that applies, 0 for none
+-- bytes that are a matrix record
+pub record IsMatrixRecord (bytes : List ℕ) : Type 0 where
+  -- "length (2 bytes, little-endian, counting the whole record), kind (2 bytes, little-endian)"; "Kind 1, matrix"
+  pub counted : word bytes 0 ≡ length bytes
+  pub kind : word bytes 2 ≡ matrixKind
+  -- "m (1 byte), n (1 byte), each 1 to 8"
+  pub limits : SizeLimits (rows bytes) (columns bytes)
+  -- "Length 6 + 2 times m times n. Every coefficient is allowed."
+  pub size : length bytes ≡ matrixLength (rows bytes) (columns bytes)
+
+-- the first of the refusals 1 to 5 that applies, 0 for none; no bytes are within the limits
 unfoldable pub matrixRefusal : List ℕ → ℕ
 matrixRefusal bytes =
-    cond (ltb (length bytes) 6)
+    cond (eqb (length bytes) 0)
+    0
+    (cond (ltb (length bytes) 6)
     1
     (cond (not (eqb (word bytes 0) (length bytes)))
     2
@@ -49,7 +63,7 @@ matrixRefusal bytes =
     3
     (cond (sizeOutside (rows bytes) (columns bytes))
     4
-    (cond (not (eqb (length bytes) (matrixLength (rows bytes) (columns bytes)))) 5 0))))
+    (cond (not (eqb (length bytes) (matrixLength (rows bytes) (columns bytes)))) 5 0)))))
 
 -- two's complement of two bytes
 unfoldable pub signedWord : ℕ → ℤ

@@ -16,6 +16,16 @@ pub record Netlist : Type 0 where
   pub outputs : List Output
   pub totals : Totals
 
+-- the netlist of no bytes: "a head with m, n and operations 0, then totals of 0"
+abbrev pub noBank : Netlist
+noBank =
+    record {
+      head = record { m = 0; n = 0; operations = 0 };
+      operations = [];
+      outputs = [];
+      totals = record { operations = 0; depth = 0 };
+    }
+
 -- ---- the payload of each kind, field by field
 
 -- m, n (1 byte each), operations (2 bytes)

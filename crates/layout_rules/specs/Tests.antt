@@ -1,5 +1,5 @@
 -- Document 01, "Why a record was declined": tests in their order, each with the number and the place that are returned where it is the
--- first that fails, and the tests of a matrix record. Nothing here computes an answer; the calls are held to such lists. In a list a comment
+-- first that fails, and the tests of a matrix's bytes. Nothing here computes an answer; the calls are held to such lists. In a list a comment
 -- says in document 01's words when a test fails, and the statement what holds where it passes.
 -- Assumes nothing.
 use Prim.Native.Nat.{ℕ, zero, suc, _≤_}
@@ -35,13 +35,18 @@ unfoldable pub firstTests : (ℕ → List Test) → ℕ → List Test
 firstTests tests zero = []
 firstTests tests (suc k) = firstTests tests k ++ tests k
 
--- 1: fewer than 6 bytes; 2: length field differs from the number of bytes lent; 3: kind is not 1; 4: m or n outside 1 to 8;
+-- 1: one to five bytes; 2: length field differs from the number of bytes lent; 3: kind is not 1; 4: m or n outside 1 to 8;
 -- 5: length is not 6 + 2 times m times n
-abbrev pub matrixTests : List ℕ → List Test
-matrixTests bytes =
+abbrev pub matrixRecordTests : List ℕ → List Test
+matrixRecordTests bytes =
     tested 1 0 (6 ≤ length bytes)
     ∷ tested 2 0 (word bytes 0 ≡ length bytes)
     ∷ tested 3 0 (word bytes 2 ≡ matrixKind)
     ∷ tested 4 0 (SizeLimits (rows bytes) (columns bytes))
     ∷ tested 5 0 (length bytes ≡ matrixLength (rows bytes) (columns bytes))
     ∷ []
+
+-- no bytes are within the limits, and nothing of them is tested
+abbrev pub matrixTests : List ℕ → List Test
+matrixTests [] = []
+matrixTests (b ∷ bytes) = matrixRecordTests (b ∷ bytes)

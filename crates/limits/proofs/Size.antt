@@ -1,12 +1,15 @@
--- The test of m and n passes exactly where they are within the limits.
+-- The test of m and n passes exactly where they are within the limits of a matrix record, and a bank's are those of a matrix record or
+-- both 0.
 -- Assumes nothing.
-use Prim.Native.Nat.{ℕ, _≤_}
+use Prim.Native.Nat.{ℕ, zero, suc, _≤_}
 use mathlib.Core.Path.{_≡_, refl}
 use mathlib.Core.Bool.{Bool, true, false, _||_, true≢false}
+use mathlib.Core.Logic.{_↔_, _⊎_, inl, inr, ⊎-elim}
+use native.Mathlib.Omega.{arith}
 use lib.Dec.{ltb}
 use borrow.Author.Tests.{ltb-false, le-ltb}
 use Rattle.limits.specs.Limits.{maxRows, maxColumns}
-use Rattle.limits.specs.Size.{SizeLimits, outside, sizeOutside}
+use Rattle.limits.specs.Size.{SizeLimits, BankSize, outside, sizeOutside}
 
 either-false : (p q : Bool) → (p || q) ≡ false → (p ≡ false) × (q ≡ false)
 either-false true q e = absurd (true≢false e)
@@ -25,3 +28,30 @@ size-within m n e =
 pub size-inside : (m n : ℕ) → SizeLimits m n → sizeOutside m n ≡ false
 size-inside m n l =
     simp (le-ltb m 1 (l .rows-least), le-ltb maxRows m (l .rows-most), le-ltb n 1 (l .columns-least), le-ltb maxColumns n (l .columns-most))
+
+-- ---- a bank's m and n
+
+-- "a bank of no rows and no inputs, also within the limits"
+pub bank-size : (m n : ℕ) → BankSize m n ↔ (((m ≡ 0) × (n ≡ 0)) ⊎ SizeLimits m n)
+bank-size m n = (there m n, back)
+  where
+    there : (m n : ℕ) → BankSize m n → ((m ≡ 0) × (n ≡ 0)) ⊎ SizeLimits m n
+    there zero n b = inl (refl, b .together .0 refl)
+    there (suc m) zero b = absurd (omega (arith, b .together .1 refl))
+    there (suc m) (suc n) b =
+        inr (record { rows-least = omega arith; rows-most = b .rows-most; columns-least = omega arith; columns-most = b .columns-most })
+
+    back : ((m ≡ 0) × (n ≡ 0)) ⊎ SizeLimits m n → BankSize m n
+    back (inl e) = record { rows-most = omega (arith, e .0); columns-most = omega (arith, e .1); together = (λ h. e .1, λ h. e .0) }
+    back (inr l) = record {
+      rows-most = l .rows-most;
+      columns-most = l .columns-most;
+      together = (λ h. absurd (omega (arith, l .rows-least, h)), λ h. absurd (omega (arith, l .columns-least, h)));
+    }
+
+pub size-of-rows : (m n : ℕ) → (m ≡ 0 → ⊥) → BankSize m n → SizeLimits m n
+size-of-rows m n some b = ⊎-elim (λ e. absurd (some (e .0))) (λ l. l) (bank-size m n .0 b)
+
+-- where there are rows, there are inputs
+pub rows-have-inputs : (m n : ℕ) → BankSize m n → 1 ≤ m → 1 ≤ n
+rows-have-inputs m n b h = size-of-rows m n (λ e. omega (arith, e)) b .columns-least

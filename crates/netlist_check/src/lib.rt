@@ -81,13 +81,13 @@ pub fn check(matrix: &[u8], netlist: &[u8]) -> CheckAnswer
             place: read.place,
         };
     }
-    if matrix[4] != read.m {
+    if layout_matrix::row_count(matrix) != read.m {
         return CheckAnswer {
             refusal: 13,
             place: 0,
         };
     }
-    if matrix[5] != read.n {
+    if layout_matrix::column_count(matrix) != read.n {
         return CheckAnswer {
             refusal: 13,
             place: 0,

@@ -14,7 +14,7 @@ use Rattle.layout_rules.specs.Places.{headAt, operationsIn, totalsPlaceIn, netl
 use Rattle.layout_rules.specs.Tests.{Test, tested, AllPass, FirstFails, firstTests, matrixTests}
 use Rattle.layout_rules.proofs.LittleEndian.{AreBytes}
 use Rattle.layout_rules.proofs.MatrixRows.{matrix-length}
-use Rattle.layout_rules.proofs.MatrixTests.{matrix-refused}
+use Rattle.layout_rules.proofs.MatrixTests.{matrix-refused, matrix-numbers}
 use Rattle.layout_rules.proofs.TestLaws.{RefusedBy, NumbersBelow, numbers-append, numbers-first, number-below, all-append, all-split, first-all, all-first, fails-split, fails-after, fails-not-all, fails-among}
 use Rattle.board_rules.specs.Machine.{machine, outputValue, times}
 use Rattle.netlist_rules.specs.Read.{accepted}
@@ -187,7 +187,7 @@ module _ (mb nb : List ℕ) (all : AreBytes nb) (row : ℕ) where
       in-netlist x (inr g) = in-sizes x (g .0) (g .1)
 
       in-matrix : FirstFails (matrixTests mb) 14 row ⊎ (AllPass (matrixTests mb) × FirstFails (readTests nb ++ last mb nb) 14 row) → Result
-      in-matrix (inl g) = absurd (omega (arith, number-below 6 14 row (matrixTests mb) (omega arith) g))
+      in-matrix (inl g) = absurd (omega (arith, number-below 6 14 row (matrixTests mb) (matrix-numbers mb) g))
       in-matrix (inr g) = in-netlist (g .0) (fails-split 14 row (readTests nb) (last mb nb) (g .1))
 
   lowest-back : (net : Netlist) → LowestRow mb nb net row → FirstFails (checkTests mb nb) 14 row

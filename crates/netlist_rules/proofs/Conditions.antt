@@ -3,7 +3,7 @@
 use Prim.Native.Nat.{ℕ, zero, _+_, _<_, _≤_}
 use mathlib.Core.Path.{_≡_, refl, sym, _∙_, ap, subst}
 use mathlib.Core.Bool.{Bool, true, false, not, _&&_, _||_, true≢false}
-use mathlib.Core.Logic.{_↔_}
+use mathlib.Core.Logic.{_↔_, _⊎_, inl, inr, ⊎-elim}
 use mathlib.Core.List.{List, [], _∷_, _++_}
 use native.Mathlib.Omega.{arith}
 use lib.Dec.{leb, ltb, eqb}
@@ -12,7 +12,7 @@ use lib.ListN.{length}
 use borrow.Author.Tests.{ltb-true, ltb-false, leb-true, eqb-true, lt-ltb, le-leb, eq-eqb, not-true}
 use Rattle.limits.specs.Limits.{positions, maxShift, sampleWidth, maxOperations, maxWidth}
 use Rattle.limits.specs.Size.{SizeLimits, sizeOutside}
-use Rattle.limits.proofs.Size.{size-within, size-inside}
+use Rattle.limits.proofs.Size.{size-within, size-inside, bank-size}
 use Rattle.layout_rules.specs.declared.Head.{Head}
 use Rattle.layout_rules.specs.declared.Operation.{Operation}
 use Rattle.layout_rules.specs.declared.Output.{Output}
@@ -30,6 +30,10 @@ use Rattle.netlist_rules.specs.Exact.{readLimits}
 pub and-says : {P Q : Type 0} (t u : Bool) → (t ≡ true) ↔ P → (u ≡ true) ↔ Q → ((t && u) ≡ true) ↔ (P × Q)
 and-says true u p q = (λ e. (p .0 refl, q .0 e), λ h. q .1 (h .1))
 and-says false u p q = (λ e. absurd (true≢false (sym e)), λ h. p .1 (h .0))
+
+or-says : {P Q : Type 0} (t u : Bool) → (t ≡ true) ↔ P → (u ≡ true) ↔ Q → ((t || u) ≡ true) ↔ (P ⊎ Q)
+or-says true u p q = (λ e. inl (p .0 refl), λ h. refl)
+or-says false u p q = (λ e. inr (q .0 e), λ h. ⊎-elim (λ x. absurd (true≢false (sym (p .1 x)))) (λ y. q .1 y) h)
 
 pub at-most-says : (a b : ℕ) → (leb a b ≡ true) ↔ (a ≤ b)
 at-most-says a b = (leb-true a b, le-leb a b)
@@ -49,12 +53,32 @@ inside-says m n = (λ e. size-within m n (not-true (sizeOutside m n) e), λ l. r
 
 -- ---- fields in range
 
+-- m, n and operations 0, or m and n of a matrix record and operations up to the most
+abbrev HeadCases : Head → Type 0
+HeadCases h = ((h .m ≡ 0) × ((h .n ≡ 0) × (h .operations ≡ 0))) ⊎ (SizeLimits (h .m) (h .n) × (h .operations ≤ maxOperations))
+
+head-cases : (h : Head) → HeadCases h ↔ HeadLimits readLimits h
+head-cases h = (there, λ l. back l (bank-size (h .m) (h .n) .0 (l .limits)))
+  where
+    there : HeadCases h → HeadLimits readLimits h
+    there (inl e) = record { limits = bank-size (h .m) (h .n) .1 (inl (e .0, e .1 .0)); few = omega (arith, e .1 .1); none = λ z. e .1 .1 }
+    there (inr s) = record { limits = bank-size (h .m) (h .n) .1 (inr (s .0)); few = s .1; none = λ z. absurd (omega (arith, z, s .0 .rows-least)) }
+
+    back : HeadLimits readLimits h → ((h .m ≡ 0) × (h .n ≡ 0)) ⊎ SizeLimits (h .m) (h .n) → HeadCases h
+    back l (inl e) = inl (e .0, (e .1, l .none (e .0)))
+    back l (inr s) = inr (s, l .few)
+
+-- a head without rows
+pub no-rows-says : (h : Head) → h .m ≡ 0 → ((h .n ≡ 0) × (h .operations ≡ 0)) ↔ HeadLimits readLimits h
+no-rows-says h e = (λ z. head-cases h .0 (inl (e, z)), λ l. (l .limits .together .0 e, l .none e))
+
 pub head-says : (h : Head) → (headInRange h ≡ true) ↔ HeadLimits readLimits h
 head-says h =
-    let all = and-says (not (sizeOutside (h .m) (h .n))) (leb (h .operations) maxOperations) (inside-says (h .m) (h .n)) (at-most-says (h .operations) maxOperations) in (
-      λ e. let p = all .0 e in record { limits = p .0; few = p .1 },
-      λ l. all .1 (l .limits, l .few),
-    )
+    let none = and-says (eqb (h .m) 0) (eqb (h .n) 0 && eqb (h .operations) 0) (same-says (h .m) 0)
+    (and-says (eqb (h .n) 0) (eqb (h .operations) 0) (same-says (h .n) 0) (same-says (h .operations) 0)) in
+    let some = and-says (not (sizeOutside (h .m) (h .n))) (leb (h .operations) maxOperations) (inside-says (h .m) (h .n)) (at-most-says (h .operations) maxOperations) in
+    let all = or-says (eqb (h .m) 0 && (eqb (h .n) 0 && eqb (h .operations) 0)) (not (sizeOutside (h .m) (h .n)) && leb (h .operations) maxOperations) none some in
+    (λ e. head-cases h .0 (all .0 e), λ l. all .1 (head-cases h .1 l))
 
 pub operation-says : (symbol : ℕ) (o : Operation) → (operationInRange symbol o ≡ true) ↔ OperationLimits readLimits symbol o
 operation-says symbol o =

@@ -7,4 +7,5 @@ pub mod NetlistBytes
 pub mod Coefficients
 pub mod CheckTests
 pub mod CheckAccepts
+pub mod NoRows
 pub mod RunLaws

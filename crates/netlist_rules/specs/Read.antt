@@ -29,9 +29,11 @@ recordRefusal bytes place kind size =
       | zero ↦ elim (eqb (word bytes (place + 2)) kind && eqb (word bytes place) size) [ true ↦ 0 | false ↦ 8 ]
     ]
 
--- 9: m or n outside their limits, or more operations than the most
+-- 9: m or n outside their limits, or more operations than the most; "m and n of 0 only together and only with no operations"
 abbrev pub headInRange : Head → Bool
-headInRange h = not (sizeOutside (h .m) (h .n)) && leb (h .operations) maxOperations
+headInRange h =
+    (eqb (h .m) 0 && (eqb (h .n) 0 && eqb (h .operations) 0))
+    || (not (sizeOutside (h .m) (h .n)) && leb (h .operations) maxOperations)
 
 unfoldable pub headRefusal : List ℕ → ℕ
 headRefusal bytes =

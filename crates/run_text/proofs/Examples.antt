@@ -17,4 +17,4 @@ use Rattle.run_text.specs.Examples.{RunExamples}
 
 pub run-examples : RunExamples
 unfolding flatMap signedWord headPayload operationPayload outputPayload totalsPayload netlistBytes headOf operationOf outputOf totalsOf stepRefusal machine entryForm outputForm depth width recordRefusal headRefusal operationRefusal outputRefusal totalsRefusal readRecords readNetlist readAnswer countsAnswer runAnswer runOutputs firstRecords sampleCount decimal number runText
-run-examples = record { steep = refl; steep-down = refl; one-sample = refl; odd = refl; no-netlist = refl }
+run-examples = record { steep = refl; steep-down = refl; one-sample = refl; odd = refl; no-samples = refl; one-sample-more = refl; odd-none = refl; no-netlist = refl }

@@ -166,10 +166,13 @@ module _ (base : List ℕ) (some : 0 < length base) (order : OperandOrder) where
 whole : (ds : List ℕ) → Extends ds ds
 whole ds = record { longer = omega arith; same = λ symbol k. refl }
 
-pub each-row-shallowest : (order : OperandOrder) (ds : List ℕ) (rows : List Row) {os : List Operation} {outputs : List Output} → 0 < length ds
-    → EachRow (EachTerm (HasDepth ds)) rows → SummedRows (length ds) rows os outputs
+-- where there are rows, symbol 0, that of a zero output, has a depth
+pub each-row-shallowest : (order : OperandOrder) (ds : List ℕ) (rows : List Row) {os : List Operation} {outputs : List Output}
+    → (0 < length rows → 0 < length ds) → EachRow (EachTerm (HasDepth ds)) rows → SummedRows (length ds) rows os outputs
     → (i : ℕ) → outputDepth ds (sumOperations order ds rows) (getD (sumOutputs order ds rows) i zeroOutput) ≤ outputDepth ds os (getD outputs i zeroOutput)
-each-row-shallowest order ds rows some h s i = rows-shallowest ds some order s ds ds refl (whole ds) (whole ds) h i
+unfolding sumOperations sumOutputs
+each-row-shallowest order ds [] some h end i = omega arith
+each-row-shallowest order ds (r ∷ rows) some h s i = rows-shallowest ds (some (omega arith)) order s ds ds refl (whole ds) (whole ds) h i
 
 pub rows-largest : (order : OperandOrder) (ds : List ℕ) (rows : List Row) {os : List Operation} {outputs : List Output} → EachRow (EachTerm (HasDepth ds)) rows
     → SummedRows (length ds) rows os outputs → largest (depths ds (sumOperations order ds rows)) ≤ largest (depths ds os)

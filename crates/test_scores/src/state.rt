@@ -62,12 +62,11 @@ fn print_line(entries: usize, sums: Sums) {
 pub(crate) fn print_state(matrix: &[u8], steps: usize) -> bool
     requires { ⌜ matrixRefusal (now matrix) ≡ 0 ⌝ }
 {
-    let m = matrix[4] as usize;
-    let n = matrix[5] as usize;
-    let first = matrix_rows(matrix, m, n);
+    let n = layout_matrix::column_count(matrix) as u16;
+    let first = matrix_rows(matrix);
     let mut keys = blank_keys();
     let mut scores = blank_scores();
-    let state = eliminate_rows(first, n as u16, steps, &mut keys, &mut scores);
+    let state = eliminate_rows(first, n, steps, &mut keys, &mut scores);
     let made = state.operations;
     if made.count() < steps {
         return false;

@@ -33,10 +33,16 @@ pub fn damage(random: &mut Random, bytes: &[u8], other: &[u8]) -> Vec<u8> {
     damaged
 }
 
-/// Damages a matrix record: in any way, or in one field of its first bytes, or in its number of bytes alone.
+/// Damages a matrix record: in any way, or in one field of its first bytes, or in its number of bytes alone. No bytes have no fields, so
+/// these are damaged in any way.
 pub fn damage_matrix(random: &mut Random, record: &[u8], other: &[u8]) -> Vec<u8> {
     let mut damaged = record.to_vec();
-    match random.between(0, 8) {
+    let way = if record.is_empty() {
+        0
+    } else {
+        random.between(0, 8)
+    };
+    match way {
         0 | 1 => damaged = damage(random, record, other),
         2 => change(random, &mut damaged[..2], 1),
         3 => change(random, &mut damaged[2..4], 1),

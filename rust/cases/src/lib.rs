@@ -7,7 +7,7 @@ mod random;
 mod runs;
 
 pub use damage::{damage, damage_matrix};
-pub use matrices::{any_matrix, bank, filled, Matrix};
+pub use matrices::{any_bank, any_matrix, bank, filled, Matrix};
 pub use netlists::{any_netlist, plain_netlist};
 pub use random::Random;
 pub use runs::{each, Met};

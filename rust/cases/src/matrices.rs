@@ -2,7 +2,7 @@
 
 use crate::random::Random;
 
-/// A matrix as its rows.
+/// A matrix as its rows; one without rows has no columns.
 #[derive(Clone, Debug, PartialEq, Eq)]
 pub struct Matrix {
     pub rows: Vec<Vec<i16>>,
@@ -20,13 +20,16 @@ impl Matrix {
     }
 
     pub fn n(&self) -> usize {
-        self.rows[0].len()
+        self.rows.first().map_or(0, Vec::len)
     }
 
-    /// The matrix record.
+    /// The matrix record: no bytes where there are no rows.
     pub fn record(&self) -> Vec<u8> {
         let (m, n) = (self.m(), self.n());
         let mut bytes = Vec::new();
+        if m == 0 {
+            return bytes;
+        }
         bytes.extend((6 + 2 * m as u16 * n as u16).to_le_bytes());
         bytes.extend(1u16.to_le_bytes());
         bytes.extend([m as u8, n as u8]);
@@ -72,7 +75,16 @@ const EXTREMES: [i16; 12] = [
     16_384,
 ];
 
-/// A matrix of at most m rows and n columns, of a kind that the random numbers choose.
+/// A matrix as `any_matrix` makes it, or now and then the one without rows.
+pub fn any_bank(random: &mut Random, most_m: usize, most_n: usize) -> Matrix {
+    if random.once_in(20) {
+        Matrix::of_rows(&[])
+    } else {
+        any_matrix(random, most_m, most_n)
+    }
+}
+
+/// A matrix of 1 to m rows and 1 to n columns, of a kind that the random numbers choose.
 pub fn any_matrix(random: &mut Random, most_m: usize, most_n: usize) -> Matrix {
     let (m, n) = (random.between(1, most_m), random.between(1, most_n));
     let bits = random.between(1, 16) as u32;

@@ -105,9 +105,10 @@ fn width(form: &[i128; 8]) -> u8 {
     (1..=100).find(holds).unwrap_or(255)
 }
 
-/// Any operations on any entries, right in every field, but that a width may exceed 40.
+/// Any operations on any entries, right in every field, but that a width may exceed 40. Without inputs there are no operations.
 pub fn any_netlist(random: &mut Random, m: usize, n: usize, operations: usize) -> Vec<u8> {
     let mut builder = Builder::new(n);
+    let operations = if n == 0 { 0 } else { operations };
     let most_shift = random.choose(&[0, 1, 4, 15]);
     let most_width = random.choose(&[30, 38, 39, 40, 41]);
     for _ in 0..operations {

@@ -260,6 +260,15 @@ mod tests {
         }
     }
 
+    /// The one state is that of no rows: no divisor has an occurrence.
+    #[test]
+    fn no_rows_have_one_state() {
+        let no_rows = matrix(0, 0, || 0);
+        assert_same(&no_rows, Order::DepthThenDivisor);
+        let literal = Elimination::of_matrix(&no_rows, Order::DepthThenDivisor);
+        assert_eq!(scores(&literal), [[0; 0]]);
+    }
+
     fn of_one(coefficient: i16) -> Elimination {
         Elimination::of_matrix(&matrix(1, 1, || coefficient), Order::DepthThenDivisor)
     }

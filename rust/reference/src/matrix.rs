@@ -1,4 +1,4 @@
-//! Matrix record: kind 1, m, n, then the coefficients row by row.
+//! Matrix record: kind 1, m, n, then the coefficients row by row. No bytes stand for a matrix of no rows and no columns.
 
 use crate::record::two_bytes;
 use crate::refusal::{require, Refusal};
@@ -17,27 +17,35 @@ pub(crate) struct Matrix {
 }
 
 impl Matrix {
-    /// The matrix of a record. Refusals 1 to 5.
+    /// The matrix of a record, or of no bytes. Refusals 1 to 5.
     pub fn of_record(record: &[u8]) -> Result<Self, Refusal> {
-        require(record.len() >= START, 1, 0)?;
-        let length = usize::from(two_bytes(record, 0));
-        require(length == record.len(), 2, 0)?;
-        require(two_bytes(record, 2) == 1, 3, 0)?;
-        let (m, n) = (usize::from(record[4]), usize::from(record[5]));
-        require(is_size(m) && is_size(n), 4, 0)?;
-        require(length == record_length(m, n), 5, 0)?;
-
+        let (m, n) = match record {
+            [] => (0, 0),
+            _ => size(record)?,
+        };
         let mut rows = [[0; MOST]; MOST];
-        for (row, bytes) in rows.iter_mut().zip(record[START..].chunks_exact(2 * n)) {
-            for (coefficient, pair) in row.iter_mut().zip(bytes.chunks_exact(2)) {
-                *coefficient = i16::from_le_bytes([pair[0], pair[1]]);
+        for (i, row) in rows[..m].iter_mut().enumerate() {
+            for (j, coefficient) in row[..n].iter_mut().enumerate() {
+                *coefficient = two_bytes(record, START + 2 * (i * n + j)) as i16;
             }
         }
         Ok(Matrix { m, n, rows })
     }
 }
 
-/// Whether `count` is a number of rows or columns within the limits.
+/// m and n of a record that has as many bytes as these want.
+fn size(record: &[u8]) -> Result<(usize, usize), Refusal> {
+    require(record.len() >= START, 1, 0)?;
+    let length = usize::from(two_bytes(record, 0));
+    require(length == record.len(), 2, 0)?;
+    require(two_bytes(record, 2) == 1, 3, 0)?;
+    let (m, n) = (usize::from(record[4]), usize::from(record[5]));
+    require(is_size(m) && is_size(n), 4, 0)?;
+    require(length == record_length(m, n), 5, 0)?;
+    Ok((m, n))
+}
+
+/// Whether `count` is a number of rows or columns that a record may have.
 pub(crate) fn is_size(count: usize) -> bool {
     (1..=MOST).contains(&count)
 }

@@ -78,13 +78,14 @@ impl<'a> Reader<'a> {
         Ok((place, record.payload))
     }
 
-    /// m, n and the number of operations.
+    /// m, n and the number of operations. m and n are 0 only together, and only with no operations.
     fn head(&mut self) -> Result<(usize, usize, usize), Refusal> {
         let (place, payload) = self.record(2, 8)?;
         let (m, n) = (usize::from(payload[0]), usize::from(payload[1]));
         let operations = usize::from(two_bytes(payload, 2));
-        let in_range = is_size(m) && is_size(n) && operations <= MOST_OPERATIONS;
-        require(in_range, 9, place)?;
+        let some_rows = is_size(m) && is_size(n) && operations <= MOST_OPERATIONS;
+        let no_rows = (m, n, operations) == (0, 0, 0);
+        require(some_rows || no_rows, 9, place)?;
         Ok((m, n, operations))
     }
 

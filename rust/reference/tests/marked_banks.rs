@@ -108,6 +108,58 @@ fn three_minus_three() {
     assert_eq!(run(&netlist, &[1], &mut []), Err(samples));
 }
 
+/// A head with m, n and operations 0, then totals of 0.
+const NO_ROWS: [u8; 16] = [8, 0, 2, 0, 0, 0, 0, 0, 8, 0, 5, 0, 0, 0, 0, 0];
+
+/// No bytes mean a bank of no rows and no inputs.
+#[test]
+fn no_bytes() {
+    let mut buffer = [0xA5; 17];
+    let counts = Compiled {
+        written: 16,
+        operations: 0,
+        plain: 0,
+        divisors: 0,
+        replacements: 0,
+        depth: 0,
+        negated: 0,
+    };
+    assert_eq!(compile(&[], &mut buffer), Ok(counts));
+    assert_eq!(buffer[..16], NO_ROWS);
+    assert_eq!(buffer[16], 0xA5);
+    let read_back = Netlist {
+        m: 0,
+        n: 0,
+        operations: 0,
+        depth: 0,
+    };
+    assert_eq!(read(&NO_ROWS), Ok(read_back));
+    assert_eq!(check(&[], &NO_ROWS), Ok(()));
+    assert_eq!(run(&NO_ROWS, &[], &mut []), Ok(()));
+}
+
+#[test]
+fn refusals_beside_no_bytes() {
+    let refused = |number| Err(Refusal { number, place: 0 });
+    assert_eq!(compile(&[], &mut [0; 15]).map(drop), refused(6));
+    assert_eq!(run(&NO_ROWS, &[1], &mut [7]), refused(15));
+    assert_eq!(run(&NO_ROWS, &[], &mut [7]), refused(16));
+
+    let (record, netlist) = (Matrix::of_rows(&[&[1]]).record(), compiled(&[&[1]]).1);
+    assert_eq!(check(&[], &netlist), refused(13));
+    assert_eq!(check(&record, &NO_ROWS), refused(13));
+
+    for length in 1..6 {
+        assert_eq!(check(&record[..length], &NO_ROWS), refused(1));
+    }
+    assert_eq!(check(&[6, 0, 1, 0, 0, 0], &NO_ROWS), refused(4));
+    for [m, n, operations] in [[0, 1, 0], [1, 0, 0], [0, 0, 1]] {
+        let mut head = NO_ROWS;
+        head[4..7].copy_from_slice(&[m, n, operations]);
+        assert_eq!(read(&head).map(drop), refused(9));
+    }
+}
+
 /// (0<<0) + (1<<0) comes first and gets symbol 5; then (2<<0) + (5<<0) and (3<<0) + (4<<0) have score 2, and the second the
 /// smaller depth.
 #[test]

@@ -7,13 +7,14 @@
 use std::io::Write;
 use std::path::PathBuf;
 use std::process::{Command, Output, Stdio};
-use std::{env, fs};
+use std::{env, fs, thread};
 
-use cases::{any_matrix, any_netlist, damage, damage_matrix, each, plain_netlist, Met, Random};
+use cases::{any_bank, any_netlist, damage, damage_matrix, each, plain_netlist};
+use cases::{Matrix, Met, Random};
 use reference::Refusal;
 
 /// How many of the later requests are in force: the program's first word.
-const REQUESTS: &str = "5";
+const REQUESTS: &str = "6";
 
 fn bank(words: &[&str], input: &[u8]) -> Output {
     let program = env::var("BANK").expect("BANK is the path of bank.py");
@@ -142,8 +143,10 @@ fn compare_generate(met: &mut Met, m: u8, n: u8, seed: u32, room: usize) {
     }
 }
 
+/// A file of the test that runs in this thread.
 fn file(name: &str, bytes: &[u8]) -> PathBuf {
-    let name = format!("reference-oracle-{}-{name}", std::process::id());
+    let (process, thread) = (std::process::id(), thread::current().id());
+    let name = format!("reference-oracle-{process}-{thread:?}-{name}");
     let path = env::temp_dir().join(name);
     fs::write(&path, bytes).unwrap();
     path
@@ -164,7 +167,7 @@ fn oracle_agrees() {
     let (mut compiled, mut read) = (Met::default(), Met::default());
     let (mut checked, mut run) = (Met::default(), Met::default());
     each(0, count(), |random| {
-        let matrix = any_matrix(random, 8, 8);
+        let matrix = any_bank(random, 8, 8);
         let record = matrix.record();
         let netlist = compare_compile(&mut compiled, &record).unwrap();
         compare_read(&mut read, &netlist);
@@ -172,7 +175,7 @@ fn oracle_agrees() {
         let vector = samples(random, matrix.n());
         compare_run(&mut run, &netlist, &vector, matrix.m());
 
-        let other = any_matrix(random, 8, 8);
+        let other = any_bank(random, 8, 8);
         let bad_record = damage_matrix(random, &record, &other.record());
         compare_compile(&mut compiled, &bad_record);
         compare_check(&mut checked, &bad_record, &netlist);
@@ -184,7 +187,8 @@ fn oracle_agrees() {
         for netlist in [&any, &plain, &bad_netlist] {
             compare_read(&mut read, netlist);
             compare_check(&mut checked, &record, netlist);
-            let count = random.between(matrix.n() - 1, matrix.n());
+            let n = matrix.n();
+            let count = random.between(n.saturating_sub(1), n.max(1));
             let vector = samples(random, count);
             compare_run(&mut run, netlist, &vector, matrix.m());
         }
@@ -194,6 +198,60 @@ fn oracle_agrees() {
     let check_numbers = [0, 1, 2, 3, 4, 5, 7, 8, 9, 10, 11, 12, 13, 14];
     checked.assert_exactly("check", &check_numbers, 1);
     run.assert_exactly("run", &[0, 7, 8, 9, 10, 11, 12, 15], 1);
+}
+
+/// Records with rows, the first bytes of one, and sizes of 0.
+fn records_beside_no_bytes() -> Vec<Vec<u8>> {
+    let right = Matrix::of_rows(&[&[3, -3]]).record();
+    let mut all: Vec<Vec<u8>> = (0..=6).map(|length| right[..length].to_vec()).collect();
+    for size in [[0, 0], [0, 2], [1, 0]] {
+        all.push([&[6, 0, 1, 0], &size[..]].concat());
+        all.push([&right[..4], &size, &right[6..]].concat());
+    }
+    all.extend([right, Matrix::of_rows(&[&[1]]).record()]);
+    all
+}
+
+/// The netlist of no rows with other totals, shorter and longer; then heads with 0, without and with an operation behind them.
+fn netlists_beside_no_rows() -> Vec<Vec<u8>> {
+    let right = [8, 0, 2, 0, 0, 0, 0, 0, 8, 0, 5, 0, 0, 0, 0, 0, 0];
+    let mut all: Vec<Vec<u8>> = (0..=17).map(|length| right[..length].to_vec()).collect();
+    let operation = [12, 0, 3, 0, 0, 0, 0, 0, 0, 0, 0, 17];
+    for size in [[0, 0], [0, 1], [1, 0]] {
+        for operations in [[0, 0], [1, 0], [0xF9, 1]] {
+            let head = [&right[..4], &size, &operations].concat();
+            let totals = [&right[8..12], &operations, &[1, 0]].concat();
+            all.push([&head[..], &totals].concat());
+            all.push([&head[..], &operation, &totals].concat());
+        }
+    }
+    all
+}
+
+#[test]
+#[ignore = "needs BANK, the path of a second program"]
+fn oracle_agrees_beside_no_rows() {
+    let (mut compiled, mut read) = (Met::default(), Met::default());
+    let (mut checked, mut run) = (Met::default(), Met::default());
+    let (records, mut netlists) = (records_beside_no_bytes(), netlists_beside_no_rows());
+    for record in &records {
+        let netlist = compare_compile(&mut compiled, record);
+        compare_check(&mut checked, record, &netlists[16]);
+        netlists.extend(netlist);
+    }
+    for netlist in &netlists {
+        compare_read(&mut read, netlist);
+        compare_check(&mut checked, &[], netlist);
+        compare_check(&mut checked, &records[records.len() - 1], netlist);
+        let m = reference::read(netlist).map_or(0, |read| usize::from(read.m));
+        compare_run(&mut run, netlist, &[], m);
+        compare_run(&mut run, netlist, &[1], m);
+    }
+    compiled.assert_exactly("compile", &[0, 1, 2, 4], 1);
+    read.assert_exactly("read", &[0, 7, 8, 9, 11, 12], 1);
+    let check_numbers = [0, 1, 2, 4, 7, 8, 9, 11, 12, 13];
+    checked.assert_exactly("check", &check_numbers, 1);
+    run.assert_exactly("run", &[0, 7, 8, 9, 11, 12, 15], 1);
 }
 
 #[test]

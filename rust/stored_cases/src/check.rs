@@ -1,14 +1,14 @@
 //! Cases of read and check: the lengths of record and netlist, then both. Printed are the two answers, one a line.
 
-use cases::Matrix;
+use cases::{filled, Matrix};
 use reference::returned;
 
 use crate::case::{Call, Case};
-use crate::matrices::{matrices, netlist, refused_records, three_minus_three};
+use crate::matrices::{matrices, netlist, no_rows, refused_records, three_minus_three};
 use crate::netlists::{damaged, handmade, Pair};
 
 pub fn cases() -> Vec<Case> {
-    let pairs = [compiled(), handmade(), damaged()].concat();
+    let pairs = [compiled(), handmade(), damaged(), without_rows()].concat();
     pairs.iter().map(case).collect()
 }
 
@@ -28,6 +28,26 @@ fn compiled() -> Vec<Pair> {
             .into_iter()
             .map(|record| (record, right.clone())),
     );
+    all
+}
+
+/// The bank of no rows with its own netlist, with records that are refused, and beside banks that have rows.
+fn without_rows() -> Vec<Pair> {
+    let none = no_rows().record();
+    let mut all = vec![(none.clone(), netlist(&none))];
+    for record in refused_records() {
+        all.push((record, netlist(&none)));
+    }
+    for matrix in [
+        filled(1, 1, || 0),
+        filled(1, 1, || 1),
+        three_minus_three(),
+        filled(8, 8, || 0),
+    ] {
+        let record = matrix.record();
+        all.push((none.clone(), netlist(&record))); // 13
+        all.push((record, netlist(&none))); // 13
+    }
     all
 }
 

@@ -8,7 +8,7 @@ use reference::returned;
 use crate::case::{Call, Case};
 use crate::matrices::{
     banks_with_equal_depths, banks_with_equal_scores, banks_with_negative_terms, matrices, netlist,
-    refused_records, three_minus_three, ROOM,
+    no_rows, refused_records, three_minus_three, ROOM,
 };
 
 /// What a lent buffer holds before.
@@ -47,6 +47,7 @@ fn inputs() -> Vec<(usize, Vec<u8>)> {
         }
     }
     all.push((ROOM, Matrix::of_rows(&[&[1, 2], &[3, 4]]).record()));
+    all.extend([0, 15, 16, 17, 64].map(|room| (room, no_rows().record()))); // 6 in the first two
     all
 }
 

@@ -35,6 +35,11 @@ pub fn three_minus_three() -> Matrix {
     Matrix::of_rows(&[&[3, -3]])
 }
 
+/// The matrix of no rows, whose record has no bytes.
+pub fn no_rows() -> Matrix {
+    Matrix::of_rows(&[])
+}
+
 /// Three rows: a sum, nothing, and an input negated.
 pub fn five_zero_minus_one() -> Matrix {
     Matrix::of_rows(&[&[5], &[0], &[-1]])
@@ -180,16 +185,29 @@ pub fn refused_records() -> Vec<Vec<u8>> {
         changed[place..place + 2].copy_from_slice(&bytes);
         changed
     };
-    let mut all: Vec<Vec<u8>> = (0..6).map(|length| right[..length].to_vec()).collect(); // 1
+    let mut all: Vec<Vec<u8>> = (1..6).map(|length| right[..length].to_vec()).collect(); // 1
     all.push([&right[..], &[0]].concat()); // 2
     all.push(right[..right.len() - 1].to_vec()); // 2
     all.push(with(2, [2, 0])); // 3
     all.push(with(2, [1, 1])); // 3
-    for size in [[0, 2], [1, 0], [9, 1], [1, 255]] {
+    for size in [[0, 2], [1, 0], [9, 1], [1, 255], [0, 0]] {
         all.push(with(4, size)); // 4
     }
     all.push(with(4, [2, 2])); // 5
     all.push(with(4, [1, 1])); // 5
+    all.extend(records_without_coefficients());
+    all
+}
+
+/// Six bytes with an m or n of 0, and fewer bytes: only no bytes at all are a matrix of no rows.
+fn records_without_coefficients() -> Vec<Vec<u8>> {
+    let zeros = [6, 0, 1, 0, 0, 0];
+    let mut all: Vec<Vec<u8>> = (1..6).map(|length| zeros[..length].to_vec()).collect(); // 1
+    all.extend((1..=6).map(|length| vec![0; length])); // 1 and 2
+    all.push(vec![6, 0, 0, 0, 0, 0]); // 3
+    for size in [[0, 0], [0, 1], [1, 0], [0, 8], [8, 0]] {
+        all.push([&zeros[..4], &size].concat()); // 4
+    }
     all
 }
 

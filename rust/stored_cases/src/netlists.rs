@@ -2,7 +2,7 @@
 
 use cases::Matrix;
 
-use crate::matrices::{five_zero_minus_one, netlist, three_minus_three};
+use crate::matrices::{five_zero_minus_one, netlist, no_rows, three_minus_three};
 
 /// A matrix record, and a netlist to check against it.
 pub type Pair = (Vec<u8>, Vec<u8>);
@@ -51,6 +51,7 @@ pub fn handmade() -> Vec<Pair> {
         wide_values(),
         long_netlists(),
         small_netlists(),
+        sizes_of_zero(),
     ]
     .concat()
 }
@@ -164,10 +165,30 @@ fn small_netlists() -> Vec<Pair> {
     ]
 }
 
-/// Every byte of two netlists set to several values, every truncation, bytes left over.
+/// Heads with m or n of 0, which are refused with 9 unless both are 0 and there are no operations. Where it can be, what stands behind
+/// such a head is as it would be if the head were right.
+fn sizes_of_zero() -> Vec<Pair> {
+    let zero = || output(ZERO, (0, 0), 1);
+    let difference = || operation(SUBTRACT, (0, 0), (0, 0), 1);
+    let mut all = Vec::new();
+    for [m, n] in [[0, 1], [1, 0], [0, 8], [8, 0], [0, 9], [9, 0], [0, 255]] {
+        let outputs = vec![zero(); m.into()].concat();
+        all.push(vec![head(m, n, 0), outputs, totals(0, 0)]);
+    }
+    for count in [1, 2, 504, 505, u16::MAX] {
+        all.push(vec![head(0, 0, count), totals(count, 0)]);
+    }
+    all.push(vec![head(0, 0, 1), difference(), totals(1, 1)]);
+    all.push(vec![head(0, 1, 1), difference(), totals(1, 1)]);
+    all.push(vec![head(0, 0, 0), difference(), totals(0, 0)]); // 8 at 8
+    all.push(vec![head(0, 0, 0), zero(), totals(0, 0)]); // 8 at 8
+    all.iter().map(|records| pair(&[], records)).collect()
+}
+
+/// Every byte of three netlists set to several values, every truncation, bytes left over.
 pub fn damaged() -> Vec<Pair> {
     let mut all = Vec::new();
-    for matrix in [three_minus_three(), five_zero_minus_one()] {
+    for matrix in [three_minus_three(), five_zero_minus_one(), no_rows()] {
         let record = matrix.record();
         let right = netlist(&record);
         let mut push = |netlist: Vec<u8>| all.push((record.clone(), netlist));

@@ -8,7 +8,7 @@ use cases::{filled, Matrix};
 use reference::returned;
 
 use crate::case::{Call, Case};
-use crate::matrices::{five_zero_minus_one, matrices, netlist, three_minus_three};
+use crate::matrices::{five_zero_minus_one, matrices, netlist, no_rows, three_minus_three};
 use crate::mersenne_twister::MersenneTwister;
 use crate::netlists::{damaged, handmade};
 
@@ -30,6 +30,7 @@ pub fn cases() -> Vec<Case> {
         let samples = [vec![i16::MAX], vec![i16::MAX, i16::MIN], vec![-1], vec![]];
         all.push((netlist, samples.into_iter().zip([1, 1, 3, 0]).collect()));
     }
+    all.push(without_rows());
     all.iter().map(case).collect()
 }
 
@@ -90,6 +91,13 @@ fn wrong_counts() -> Vec<Runs> {
     let ones = filled(8, 8, || 1);
     let some = [three_minus_three(), five_zero_minus_one(), ones];
     some.map(runs).to_vec()
+}
+
+/// The netlist of no rows: no samples and no outputs, then 16, then 15, also where both counts are wrong.
+fn without_rows() -> Runs {
+    let counts = [0, 1, 9, 255];
+    let both = counts.iter().flat_map(|&n| counts.map(|m| (vec![1; n], m)));
+    (netlist(&no_rows().record()), both.collect())
 }
 
 /// Netlists that no compiler writes, with as many samples and outputs as the head says, if it is one.

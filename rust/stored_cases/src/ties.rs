@@ -158,7 +158,8 @@ fn stored_matrices_tell_how_each_tie_is_decided() {
     let mut counts = TURNED.map(|turned| (turned, 0));
     for record in compiled_records() {
         let elimination = Elimination::of_record(&record).expect("a right record");
-        let operations = |turned| operations(&elimination, record[5].into(), turned);
+        let n = netlist(&record)[5].into(); // the head's, since a record may have no bytes
+        let operations = |turned| operations(&elimination, n, turned);
         let right = compiled(&record);
         assert_eq!(operations(None), right, "{record:?}");
         for (turned, count) in &mut counts {

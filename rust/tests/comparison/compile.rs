@@ -1,6 +1,6 @@
 //! Compile: matrices of all kinds, buffers of all lengths, damaged matrix records; and what becomes of the netlist.
 
-use cases::{any_matrix, bank, damage_matrix, each, Matrix, Random};
+use cases::{any_bank, any_matrix, bank, damage_matrix, each, Matrix, Random};
 
 use crate::both::Both;
 
@@ -13,6 +13,14 @@ fn netlist_length(matrix: &Matrix) -> usize {
     compiled.unwrap().written
 }
 
+/// One of the rows; no coefficients where there are no rows.
+fn any_row<'a>(random: &mut Random, matrix: &'a Matrix) -> &'a [i16] {
+    match matrix.m() {
+        0 => &[],
+        m => &matrix.rows[random.between(0, m - 1)],
+    }
+}
+
 /// Compiles, then reads, checks and runs what was written; each output must be row times vector.
 fn compile_and_use(both: &mut Both, random: &mut Random, matrix: &Matrix) {
     let room = netlist_length(matrix) + random.between(0, 40);
@@ -23,7 +31,7 @@ fn compile_and_use(both: &mut Both, random: &mut Random, matrix: &Matrix) {
     assert_eq!(usize::from(read.n), matrix.n());
     assert!(both.check(&matrix.record(), &netlist));
 
-    let row = &matrix.rows[random.between(0, matrix.m() - 1)];
+    let row = any_row(random, matrix);
     let steep = |sign: bool| move |&c: &i16| if (c < 0) == sign { i16::MIN } else { i16::MAX };
     let any: Vec<i16> = row.iter().map(|_| random.sample()).collect();
     let highest = row.iter().map(steep(true)).collect();
@@ -66,7 +74,7 @@ fn matrices_of_all_kinds() {
 fn small_matrices() {
     let mut both = Both::default();
     each(200_000, 30_000, |random| {
-        let matrix = any_matrix(random, 3, 3);
+        let matrix = any_bank(random, 3, 3);
         compile_and_use(&mut both, random, &matrix);
     });
     both.assert_compile(&[0], 30_000);
@@ -128,7 +136,7 @@ fn buffers_of_every_length() {
 fn buffers_around_the_length() {
     let mut both = Both::default();
     each(500_000, 1_000, |random| {
-        let matrix = any_matrix(random, 6, 6);
+        let matrix = any_bank(random, 6, 6);
         let length = netlist_length(&matrix);
         let shorter = random.between(0, length - 1);
         for room in [0, shorter, length - 1, length, ROOM] {
@@ -143,8 +151,8 @@ fn buffers_around_the_length() {
 fn damaged_matrix_records() {
     let mut both = Both::default();
     each(600_000, 40_000, |random| {
-        let matrix = any_matrix(random, 4, 4);
-        let other = any_matrix(random, 4, 4);
+        let matrix = any_bank(random, 4, 4);
+        let other = any_bank(random, 4, 4);
         let mut netlist = vec![0; ROOM];
         let compiled = reference::compile(&matrix.record(), &mut netlist);
         netlist.truncate(compiled.unwrap().written);

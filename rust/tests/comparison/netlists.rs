@@ -1,6 +1,6 @@
 //! Read, check and run on netlists: those of compile, others that are right, and damaged ones.
 
-use cases::{any_matrix, any_netlist, damage, each, plain_netlist, Matrix, Random};
+use cases::{any_bank, any_matrix, any_netlist, damage, each, plain_netlist, Matrix, Random};
 
 use crate::both::Both;
 
@@ -32,8 +32,8 @@ fn all_calls(both: &mut Both, random: &mut Random, matrix: &Matrix, netlist: &[u
     let (m, n) = (matrix.m(), matrix.n());
     both.read(netlist);
     both.check(&matrix.record(), netlist);
-    let samples = random.choose(&[n, n, n, n - 1, n + 1, 0, 8]);
-    let outputs = random.choose(&[m, m, m, m - 1, m + 1, 0, 8]);
+    let samples = random.choose(&[n, n, n, n.saturating_sub(1), n + 1, 0, 8]);
+    let outputs = random.choose(&[m, m, m, m.saturating_sub(1), m + 1, 0, 8]);
     let samples: Vec<i16> = (0..samples).map(|_| random.sample()).collect();
     let old: Vec<i64> = (0..outputs).map(|_| random.number() as i64).collect();
     both.run(netlist, &samples, &old);
@@ -43,7 +43,7 @@ fn all_calls(both: &mut Both, random: &mut Random, matrix: &Matrix, netlist: &[u
 fn damaged_netlists() {
     let mut both = Both::default();
     each(1_000_000, 100_000, |random| {
-        let (matrix, other) = (any_matrix(random, 4, 4), any_matrix(random, 4, 4));
+        let (matrix, other) = (any_bank(random, 4, 4), any_bank(random, 4, 4));
         let right = netlist(random, &matrix);
         let spliced = netlist(random, &other);
         let damaged = damage(random, &right, &spliced);
@@ -69,7 +69,7 @@ fn right_netlists() {
         let coefficient = &mut row[random.between(0, matrix.n() - 1)];
         *coefficient = coefficient.wrapping_add(random.choose(&[1, -1, 256]));
         all_calls(&mut both, random, &changed, &right);
-        let other = any_matrix(random, 8, 8);
+        let other = any_bank(random, 8, 8);
         all_calls(&mut both, random, &other, &right);
     });
     both.assert_read(&[0, 10], 100);
@@ -138,7 +138,7 @@ fn every_byte_changed() {
 fn every_length() {
     let mut both = Both::default();
     each(6_000_000, 400, |random| {
-        let matrix = any_matrix(random, 3, 3);
+        let matrix = any_bank(random, 3, 3);
         let mut bytes = netlist(random, &matrix);
         bytes.extend(random.bytes(8));
         for length in 0..bytes.len() {
@@ -152,7 +152,7 @@ fn every_length() {
 fn random_bytes() {
     let mut both = Both::default();
     each(7_000_000, 50_000, |random| {
-        let matrix = any_matrix(random, 2, 2);
+        let matrix = any_bank(random, 2, 2);
         let count = random.between(0, 60);
         let mut bytes = random.bytes(count);
         if random.once_in(2) && count >= 2 {
@@ -168,7 +168,7 @@ fn random_bytes() {
 fn random_records() {
     let mut both = Both::default();
     each(10_000_000, 100_000, |random| {
-        let matrix = any_matrix(random, 2, 2);
+        let matrix = any_bank(random, 2, 2);
         let operations = random.between(0, 3) as u8;
         let (m, n) = (matrix.m() as u8, matrix.n() as u8);
         let mut bytes = vec![8, 0, 2, 0, m, n, operations, 0];
@@ -187,5 +187,5 @@ fn random_records() {
         }
         all_calls(&mut both, random, &matrix, &bytes);
     });
-    both.assert_read(&[8, 9, 10, 11], 1);
+    both.assert_read(&[0, 8, 9, 10, 11], 1); // 0 where there are no rows
 }

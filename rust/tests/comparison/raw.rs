@@ -1,12 +1,18 @@
 //! The functions under the wrappers, as C calls them: what the wrappers hide. Every number of an answer is written, all are 0
 //! where it is a refusal.
 
-use cases::{any_matrix, any_netlist, damage, damage_matrix, each, Met};
+use cases::{any_bank, any_netlist, damage, damage_matrix, each, Met, Random};
 use reference::returned;
 use zaatarloft::raw::{
     zaatarloft_raw_compile, zaatarloft_raw_generate, zaatarloft_raw_read, zaatarloft_raw_run,
     zaatarloft_raw_step,
 };
+
+/// m and n of a netlist.
+fn size(random: &mut Random) -> (usize, usize) {
+    let matrix = any_bank(random, 8, 8);
+    (matrix.m(), matrix.n())
+}
 
 /// The refusal's number and place, the bytes written, and the counts, all of which held another number before.
 fn raw_compile(record: &[u8], buffer: &mut [u8]) -> ((u8, usize), usize, [u16; 6]) {
@@ -37,7 +43,7 @@ fn raw_compile(record: &[u8], buffer: &mut [u8]) -> ((u8, usize), usize, [u16; 6
 fn numbers_of_compile() {
     let mut met = Met::default();
     each(11_000_000, 10_000, |random| {
-        let (matrix, other) = (any_matrix(random, 3, 3), any_matrix(random, 3, 3));
+        let (matrix, other) = (any_bank(random, 3, 3), any_bank(random, 3, 3));
         let record = damage_matrix(random, &matrix.record(), &other.record());
         let room = random.between(0, 400);
         let (refusal, written, counts) = raw_compile(&record, &mut vec![0; room]);
@@ -62,7 +68,7 @@ fn numbers_of_compile() {
 fn numbers_of_read_and_step() {
     let (mut met, mut stepped) = (Met::default(), Met::default());
     each(12_000_000, 20_000, |random| {
-        let (m, n) = (random.between(1, 8), random.between(1, 8));
+        let (m, n) = size(random);
         let operations = random.between(0, 9);
         let right = any_netlist(random, m, n, operations);
         let netlist = damage(random, &right, &right);
@@ -106,16 +112,16 @@ fn numbers_of_read_and_step() {
 fn numbers_of_run() {
     let mut met = Met::default();
     each(13_000_000, 20_000, |random| {
-        let (m, n) = (random.between(1, 8), random.between(1, 8));
+        let (m, n) = size(random);
         let operations = random.between(0, 9);
         let right = any_netlist(random, m, n, operations);
         let netlist = match random.between(0, 2) {
             0 => damage(random, &right, &right),
             _ => right,
         };
-        let count = random.choose(&[n, n, n, n + 1, n - 1, 0, 9, 100]);
+        let count = random.choose(&[n, n, n, n + 1, n.saturating_sub(1), 0, 9, 100]);
         let samples: Vec<i16> = (0..count).map(|_| random.sample()).collect();
-        let count = random.choose(&[m, m, m, m + 1, m - 1, 0, 9, 100]);
+        let count = random.choose(&[m, m, m, m + 1, m.saturating_sub(1), 0, 9, 100]);
         let old: Vec<i64> = (0..count).map(|_| random.number() as i64).collect();
         let mut outputs = old.clone();
         let mut place = 77;

@@ -1,6 +1,6 @@
 //! Step: every place of netlists, damaged netlists and random bytes, and places past the end.
 
-use cases::{any_matrix, any_netlist, damage, each};
+use cases::{any_bank, any_netlist, damage, each};
 
 use crate::both::Both;
 
@@ -8,7 +8,7 @@ use crate::both::Both;
 fn every_place() {
     let mut both = Both::default();
     each(8_000_000, 3_000, |random| {
-        let matrix = any_matrix(random, 3, 3);
+        let matrix = any_bank(random, 3, 3);
         let operations = random.between(0, 12);
         let right = any_netlist(random, matrix.m(), matrix.n(), operations);
         let damaged = damage(random, &right, &matrix.record());

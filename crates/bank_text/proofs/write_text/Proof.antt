@@ -8,7 +8,7 @@ use borrow.Author.Needs.{needs}
 use Rattle.limits.specs.Limits.{maxOperations}
 use Rattle.layout_rules.specs.Records.{headLength}
 use Rattle.layout_rules.specs.Places.{outputPlace}
-use Rattle.layout_rules.specs.Matrix.{rows}
+use Rattle.layout_rules.specs.Matrix.{rows, columns}
 use Rattle.layout_rules.proofs.LittleEndian.{AreBytes}
 use Rattle.layout_rules.proofs.MatrixRefusal.{AcceptedMatrix}
 use Rattle.text.specs.Text.{refusedLine}
@@ -34,7 +34,7 @@ module _ (c : tie.After-compile) where
   refusal-text = text-refused bytes all _ _ (c .compile .result) (c .before .before .no-netlist .ensures) (c .compile .ensures .0) (c .compile .ensures .1)
 
   module _ (e : c .compile .result .refusal ≡ 0) where
-    netlist-text : listingOf (countsFrom bytes (c .compile .result)) (c .compile .last .1 .0) ≡ bankText bytes
+    netlist-text : (n m : ℕ) → n ≡ columns bytes → m ≡ rows bytes → listingOf (countsFrom n m (c .compile .result)) (c .compile .last .1 .0) ≡ bankText bytes
     netlist-text = text-accepted bytes all _ _ (c .compile .result) (c .before .before .no-netlist .ensures) (c .compile .ensures .0) (c .compile .ensures .1) e
 
     within : AcceptedMatrix bytes
@@ -66,17 +66,17 @@ returns c =
     let w = c .before .before .write-refused .ensures in
     wrote-as (refusal-text (c .before .before .before .before .before .before .before) (c .before .before .before .before .if1 .taken)) (w .0)
 
-shared-slice-read-t13 : tie.Need-shared-slice-read-t13
-shared-slice-read-t13 c = omega (arith, within (c .before .before .before .before) (c .before .if1 .left) .enough)
+column-count-requires : tie.Need-column-count-requires
+column-count-requires c κs = search needs
 
-cast-t14 : tie.Need-cast-t14
-cast-t14 c = omega (arith, c .shared-slice-known2 .given 5)
+cast-t13 : tie.Need-cast-t13
+cast-t13 c = search needs
 
-shared-slice-read-t16 : tie.Need-shared-slice-read-t16
-shared-slice-read-t16 c = omega (arith, within (c .before .before .before .before .before) (c .before .before .if1 .left) .enough)
+row-count-requires : tie.Need-row-count-requires
+row-count-requires c κs = search needs
 
-cast-t17 : tie.Need-cast-t17
-cast-t17 c = omega (arith, c .shared-slice-known3 .given 4)
+cast-t15 : tie.Need-cast-t15
+cast-t15 c = search needs
 
 slice-aggregate-write-listing : tie.Need-slice-aggregate-write-listing
 slice-aggregate-write-listing c = search needs
@@ -87,7 +87,10 @@ write-listing-requires c κs =
     let e = c .before .before .before .before .if1 .left in
     let l = within k e in
     let f = operations k e in
-    (omega (arith, l .limits .columns-most, f), (enough k e, omega (arith, l .limits .rows-most, f)))
+    let same-rows = c .before .before .row-count .ensures in (
+      omega (arith, c .before .before .before .column-count .ensures, l .limits .columns-most, f),
+      (omega (arith, same-rows, enough k e), omega (arith, same-rows, l .limits .rows-most, f)),
+    )
 
 same-length-2 : tie.Need-same-length-2
 same-length-2 c = search needs
@@ -97,7 +100,8 @@ returns-2 c =
     let k = c .before .before .before .before .before .before .before .before .before .before in
     let e = c .before .before .before .before .before .before .before .if1 .left in
     let w = c .before .before .write-listing .ensures in
-    wrote-as (netlist-text k e) (w .0)
+    let counted = c .before .before .before .before .before in
+    wrote-as (netlist-text k e _ _ (counted .before .column-count .ensures) (counted .row-count .ensures)) (w .0)
 
 pub write-text-spec : {M : Type 1} → statement M
 write-text-spec =
@@ -109,10 +113,10 @@ write-text-spec =
     write-refused-requires
     same-length
     returns
-    shared-slice-read-t13
-    cast-t14
-    shared-slice-read-t16
-    cast-t17
+    column-count-requires
+    cast-t13
+    row-count-requires
+    cast-t15
     slice-aggregate-write-listing
     write-listing-requires
     same-length-2

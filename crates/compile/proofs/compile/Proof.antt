@@ -2,17 +2,16 @@
 use borrow.Author.Needs.{needs}
 use native.Mathlib.Omega.{arith}
 use Prim.Native.Nat.{ℕ, _≤_, _<_}
-use mathlib.Core.Path.{_≡_, sym, ap, subst, _∙_}
+use mathlib.Core.Path.{_≡_, sym, ap, ap₂, subst, _∙_}
 use mathlib.Core.List.{List}
 use lib.ListN.{length}
 use Rattle.limits.specs.Limits.{maxOperations}
 use Rattle.layout_rules.specs.declared.Operation.{Operation}
 use Rattle.layout_rules.specs.declared.Output.{Output}
-use Rattle.layout_rules.specs.Matrix.{matrixRefusal, columns}
+use Rattle.layout_rules.specs.Matrix.{matrixRefusal, rows, columns}
 use Rattle.layout_rules.specs.Records.{headLength}
 use Rattle.layout_rules.specs.Places.{netlistLength}
 use Rattle.layout_rules.proofs.LittleEndian.{AreBytes}
-use Rattle.layout_rules.proofs.MatrixRefusal.{accepted-matrix}
 use Rattle.board_rules.specs.Machine.{depth}
 use Rattle.compile_lists.specs.Lists.{operationsList, outputsList}
 use Rattle.compile_rules.specs.Compile.{operationsOf, negatedOutputs, eliminationOf, compiledBytes}
@@ -86,10 +85,6 @@ module _ (c : tie.After-netlist-length) where
   is-size : c .netlist-length .result ≡ length (compiledBytes (bytes plan))
   is-size = omega (arith, c .netlist-length .ensures, size plan, c .before .before .count .ensures, c .before .count2 .ensures .0)
 
--- the bytes of m and n are there
-enough : (c : tie.After-netlist-length) → (i : ℕ) → i < 6 → i < length (bytes (plan c))
-enough c i h = omega (arith, accepted-matrix (bytes (plan c)) (accepted (plan c)) .enough)
-
 refused-requires-2 : tie.Need-refused-requires-2
 refused-requires-2 c κs = search needs
 
@@ -102,39 +97,55 @@ returns-2 c =
     let short : length buffer < length (compiledBytes b) = omega (arith, is-size g, c .before .if2 .taken) in
     (c .refused2 .ensures ∙ sym (answer-short b (length buffer) (accepted p) short), sym (buffer-short b buffer (accepted p) short))
 
-shared-slice-read-write-netlist : tie.Need-shared-slice-read-write-netlist
-shared-slice-read-write-netlist c = enough (c .before .before .before) 4 (omega arith)
+row-count-requires : tie.Need-row-count-requires
+row-count-requires c κs = search needs
 
-shared-slice-read-write-netlist-2 : tie.Need-shared-slice-read-write-netlist-2
-shared-slice-read-write-netlist-2 c = enough (c .before .before .before .before) 5 (omega arith)
+column-count-requires : tie.Need-column-count-requires
+column-count-requires c κs = search needs
+
+-- m and n of the matrix
+module _ (c : tie.After-column-count) where
+  abbrev sized : tie.After-netlist-length
+  sized = c .before .before .before
+
+  abbrev its-bytes : List ℕ
+  its-bytes = bytes (plan sized)
+
+  rows-are : c .before .row-count .result ≡ rows its-bytes
+  rows-are = c .before .row-count .ensures
+
+  columns-are : c .column-count .result ≡ columns its-bytes
+  columns-are = c .column-count .ensures
 
 write-netlist-requires : tie.Need-write-netlist-requires
 write-netlist-requires c κs =
-    let g = c .before .before .before .before in
+    let d = c .before in
+    let g = sized d in
     let p = plan g in
     let b = bytes p in
     let first : Writable compiledLimits (columns b) (os p) = subst (λ (l : List Operation). Writable compiledLimits (columns b) l) (sym (p .plan .ensures .operations)) (writable b (all p) (accepted p)) in
     let second : EarlierOutputs compiledLimits (columns b) (os p) (outputs p) =
     subst (λ (l : List Operation). EarlierOutputs compiledLimits (columns b) l (outputs p)) (sym (p .plan .ensures .operations))
     (subst (λ (l : List Output). EarlierOutputs compiledLimits (columns b) (operationsOf (columns b) (eliminationOf b)) l) (sym (p .plan .ensures .outputs)) (earlier-outputs b (all p) (accepted p))) in
-    ((first, second), omega (arith, is-size g, size p, c .before .before .before .if2 .left))
+    let both = subst (λ (k : ℕ). Writable compiledLimits k (os p) × EarlierOutputs compiledLimits k (os p) (outputs p)) (sym (columns-are d)) (first, second) in
+    (both, omega (arith, is-size g, size p, d .before .before .if2 .left))
+
+cast-t16 : tie.Need-cast-t16
+cast-t16 c = omega (arith, counted (sized (c .before .before .before .before)))
+
+cast-t17 : tie.Need-cast-t17
+cast-t17 c =
+    let p = plan (sized (c .before .before .before .before .before)) in
+    omega (arith, p .plan .ensures .plain, plain-most (bytes p) (all p) (accepted p))
 
 cast-t18 : tie.Need-cast-t18
-cast-t18 c = omega (arith, counted (c .before .before .before .before .before .before .before))
+cast-t18 c =
+    let p = plan (sized (c .before .before .before .before .before .before)) in
+    omega (arith, p .plan .ensures .divisors, operations-sum (bytes p) (all p) (accepted p))
 
 cast-t19 : tie.Need-cast-t19
 cast-t19 c =
-    let p = plan (c .before .before .before .before .before .before .before .before) in
-    omega (arith, p .plan .ensures .plain, plain-most (bytes p) (all p) (accepted p))
-
-cast-t20 : tie.Need-cast-t20
-cast-t20 c =
-    let p = plan (c .before .before .before .before .before .before .before .before .before) in
-    omega (arith, p .plan .ensures .divisors, operations-sum (bytes p) (all p) (accepted p))
-
-cast-t21 : tie.Need-cast-t21
-cast-t21 c =
-    let p = plan (c .before .before .before .before .before .before .before .before .before .before) in
+    let p = plan (sized (c .before .before .before .before .before .before .before)) in
     omega (arith, p .plan .ensures .replacements, replacements-most (bytes p) (all p) (accepted p))
 
 negated-count-requires : tie.Need-negated-count-requires
@@ -146,17 +157,17 @@ same-length c = search needs
 returns-3 : tie.Need-returns-3
 returns-3 c =
     let w = c .before .before .before .before .before .before in
-    let fits = w .before .before .before .before in
-    let g = fits .before in
+    let d = w .before .before in
+    let g = sized d in
     let p = plan g in
     let b = bytes p in
     let buffer = known p .before .args .buffer .now in
-    let room : length (compiledBytes b) ≤ length buffer = omega (arith, is-size g, fits .if2 .left) in (
+    let room : length (compiledBytes b) ≤ length buffer = omega (arith, is-size g, d .before .before .if2 .left) in (
       accepted-is b _ _ _ _ _ _ _ (is-size g) (g .before .before .count .ensures ∙ ap (length {A = Operation}) (p .plan .ensures .operations)) (p .plan .ensures .plain) (p .plan .ensures .divisors)
-          (p .plan .ensures .replacements) (w .write-netlist .ensures .0 ∙ ap (depth (columns b)) (p .plan .ensures .operations))
+          (p .plan .ensures .replacements) (w .write-netlist .ensures .0 ∙ ap₂ depth (columns-are d) (p .plan .ensures .operations))
           (c .negated-count .ensures ∙ ap negatedOutputs (p .plan .ensures .outputs))
           ∙ sym (answer-accepted b (length buffer) (accepted p) room),
-      w .write-netlist .ensures .1 ∙ buffer-is b buffer (os p) (outputs p) (p .plan .ensures .operations) (p .plan .ensures .outputs) ∙ sym (buffer-accepted b buffer (accepted p) room),
+      w .write-netlist .ensures .1 ∙ buffer-is b buffer _ _ (os p) (outputs p) (rows-are d) (columns-are d) (p .plan .ensures .operations) (p .plan .ensures .outputs) ∙ sym (buffer-accepted b buffer (accepted p) room),
     )
 
 pub compile-spec : {M : Type 1} → statement M
@@ -172,13 +183,13 @@ compile-spec =
     netlist-length-requires
     refused-requires-2
     returns-2
-    shared-slice-read-write-netlist
-    shared-slice-read-write-netlist-2
+    row-count-requires
+    column-count-requires
     write-netlist-requires
+    cast-t16
+    cast-t17
     cast-t18
     cast-t19
-    cast-t20
-    cast-t21
     negated-count-requires
     same-length
     returns-3)

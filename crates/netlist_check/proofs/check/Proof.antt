@@ -2,10 +2,8 @@
 use mathlib.Core.Path.{_≡_, sym, ap, _∙_}
 use Prim.Native.Nat.{ℕ}
 use mathlib.Core.List.{List}
-use native.Mathlib.Omega.{arith}
 use Rattle.layout_rules.specs.Matrix.{matrixRefusal, rows, columns}
 use Rattle.layout_rules.specs.Places.{headAt, netlistIn}
-use Rattle.layout_rules.proofs.MatrixRefusal.{AcceptedMatrix, accepted-matrix}
 use Rattle.netlist_rules.specs.declared.ReadAnswer.{ReadAnswer}
 use Rattle.netlist_rules.specs.Read.{accepted, readNetlist, readAccepted}
 use Rattle.netlist_rules.specs.Check.{checked}
@@ -49,9 +47,6 @@ module _ (c : tie.After-netlist) where
   due : matrixRefusal m ≡ 0
   due = sym (x .before .matrix-refusal .ensures) ∙ x .if1 .left
 
-  whole : AcceptedMatrix m
-  whole = accepted-matrix m due
-
 returns-2 : tie.Need-returns-2
 returns-2 c = let d = c .before .before in netlist-declines (m d) (b d) (due d) (d .netlist .result) (d .netlist .ensures .0) (c .if2 .taken)
 
@@ -78,26 +73,26 @@ module _ (c : tie.Else2) where
   operations-is : d .netlist .result .operations ≡ headAt (b d) .operations
   operations-is = ap (λ (a : ReadAnswer). a .operations) fields
 
-shared-slice-read-if3 : tie.Need-shared-slice-read-if3
-shared-slice-read-if3 c = omega (arith, whole (d (c .before)) .enough)
+row-count-requires : tie.Need-row-count-requires
+row-count-requires c κs = search needs
 
 returns-3 : tie.Need-returns-3
 returns-3 c = let e = c .before .before .before in let D = d e in
-    rows-differ (m D) (b D) (due D) (netlistIn (b D)) (reads e) (λ z. c .if3 .taken (z ∙ sym (m-is e)))
+    rows-differ (m D) (b D) (due D) (netlistIn (b D)) (reads e) (λ z. c .if3 .taken (c .before .before .row-count .ensures ∙ z ∙ sym (m-is e)))
 
-shared-slice-read-if4 : tie.Need-shared-slice-read-if4
-shared-slice-read-if4 c = omega (arith, whole (d (c .before .before .before .before)) .enough)
+column-count-requires : tie.Need-column-count-requires
+column-count-requires c κs = search needs
 
 module _ (c : tie.Else3) where
   abbrev e : tie.Else2
   e = c .before .before .before
 
   same-rows : rows (m (d e)) ≡ d e .netlist .result .m
-  same-rows = c .if3 .left
+  same-rows = sym (c .before .before .row-count .ensures) ∙ c .if3 .left
 
 returns-4 : tie.Need-returns-4
 returns-4 c = let y = c .before .before .before in let D = d (e y) in
-    columns-differ (m D) (b D) (due D) (netlistIn (b D)) (reads (e y)) (same-rows y ∙ m-is (e y)) (λ z. c .if4 .taken (z ∙ sym (n-is (e y))))
+    columns-differ (m D) (b D) (due D) (netlistIn (b D)) (reads (e y)) (same-rows y ∙ m-is (e y)) (λ z. c .if4 .taken (c .before .before .column-count .ensures ∙ z ∙ sym (n-is (e y))))
 
 cast-rows-answer : tie.Need-cast-rows-answer
 cast-rows-answer c = search needs
@@ -113,7 +108,7 @@ module _ (c : tie.Else4) where
   y = c .before .before .before
 
   same-columns : columns (m (d (e y))) ≡ d (e y) .netlist .result .n
-  same-columns = c .if4 .left
+  same-columns = sym (c .before .before .column-count .ensures) ∙ c .if4 .left
 
 rows-answer-requires : tie.Need-rows-answer-requires
 rows-answer-requires c κs = let z = c .before .before .before .before in let E = e (y z) in (
@@ -138,9 +133,9 @@ check-spec =
     blank-depths-requires
     netlist-requires
     returns-2
-    shared-slice-read-if3
+    row-count-requires
     returns-3
-    shared-slice-read-if4
+    column-count-requires
     returns-4
     cast-rows-answer
     cast-rows-answer-2

@@ -12,7 +12,7 @@ use mir.Val.{toZ, ofZ}
 use Rattle.limits.specs.Limits.{positions, maxDigits}
 use Rattle.integers.proofs.Held.{call-result}
 use Rattle.digits.specs.Digits.{digits}
-use Rattle.layout_rules.specs.Matrix.{coefficientAt, coefficientsFrom}
+use Rattle.layout_rules.specs.Matrix.{coefficientPlace, coefficientAt, coefficientsFrom}
 use Rattle.elimination_rules.specs.Rows.{columnTerms, rowFrom}
 use Rattle.elimination_rows.specs.State.{rowTerms}
 use Rattle.elimination_rules.proofs.Counts.{column-few}
@@ -36,11 +36,15 @@ loop-holds c =
     let s = c .before .before in
     rw (c .empty .ensures) (omega arith, omega arith, ap₂ (λ (x k : ℕ). rowFrom positions 0 (coefficientsFrom (s .args .bytes .now) x k)) (omega arith) (omega arith))
 
+-- the bytes of the coefficient are there
+there : (c : tie.In-loop Inv-loop μ-loop) → (let s = c .before .before .before .before in coefficientPlace (s .args .index + c .before .loop .j) + 1 < length (s .args .bytes .now))
+there c = c .before .before .before .before .pre .1 (c .before .loop .j) (c .loop-test .taken)
+
 add-coefficient : tie.Need-add-coefficient Inv-loop μ-loop
-add-coefficient c = omega arith
+add-coefficient c = omega (arith, there c)
 
 coefficient-requires : tie.Need-coefficient-requires Inv-loop μ-loop
-coefficient-requires c κs = omega arith
+coefficient-requires c κs = there c
 
 cast-with-column : tie.Need-cast-with-column Inv-loop μ-loop
 cast-with-column c = omega arith

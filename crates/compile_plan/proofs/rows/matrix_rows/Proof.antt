@@ -1,86 +1,62 @@
 -- `compile_plan::rows::matrix_rows` meets its contract. Assumes nothing.
 use borrow.Author.Needs.{needs}
 use native.Mathlib.Omega.{arith}
-use Prim.Native.Nat.{ℕ, suc, _*_, _-_, _≤_, _<_}
-use mathlib.Core.Path.{_≡_, ap, ap₂, _∙_}
-use mathlib.Core.List.{[], _∷_, _++_}
-use native.Mathlib.Numerals.{add-one}
-use native.Mathlib.Nat.{mul-le-mul-right}
-use lib.ListN.{length, length-append}
+use Prim.Native.Nat.{ℕ, _*_}
+use mathlib.Core.Path.{_≡_, ap₂, _∙_}
+use mathlib.Core.List.{List}
 use Rattle.limits.specs.Limits.{positions}
-use Rattle.layout_rules.specs.Matrix.{rowsFrom}
-use Rattle.elimination_rules.specs.Rows.{Row, matrixRows}
-use Rattle.elimination_rows.specs.State.{rowTerms, rowsTerms}
-use Rattle.compile_plan.proofs.RowLaws.{rows-next, rows-end}
+use Rattle.layout_rules.specs.Matrix.{rows, columns, rowsFrom, matrix}
+use Rattle.layout_rules.proofs.MatrixRefusal.{AcceptedMatrix, accepted-matrix}
+use Rattle.elimination_rules.specs.Rows.{matrixRows}
 use Rattle.compile_plan.proofs.rows.matrix_rows.Statement.{statement}
 use Rattle.compile_plan.proofs.rows.matrix_rows.Tie as tie
 
-abbrev Inv-loop : tie.InvT-loop
-Inv-loop bytes m n rows₀ i₀ rows i =
-    (i ≤ m) × (length (rowsTerms rows) ≡ i) × (rowsTerms rows ++ matrixRows positions (rowsFrom bytes n (i * n) (m - i)) ≡ matrixRows positions (rowsFrom bytes n 0 m))
+row-count-requires : tie.Need-row-count-requires
+row-count-requires c κs = search needs
 
-abbrev μ-loop : tie.MeasureT-loop
-μ-loop bytes m n rows₀ i₀ rows i = m - i
+cast-m : tie.Need-cast-m
+cast-m c = search needs
 
-empty-requires : tie.Need-empty-requires Inv-loop μ-loop
-empty-requires c κs = search needs
+column-count-requires : tie.Need-column-count-requires
+column-count-requires c κs = search needs
 
-loop-holds : tie.Need-loop-holds Inv-loop μ-loop
-loop-holds c =
-    let s = c .before .before in
-    rw (c .empty .ensures) (omega arith, omega arith, ap₂ (λ (x k : ℕ). matrixRows positions (rowsFrom (s .args .bytes .now) (s .args .n) x k)) (omega arith) (omega arith))
+cast-n : tie.Need-cast-n
+cast-n c = search needs
 
--- the coefficients of a row are there
-there : (c : tie.In-loop Inv-loop μ-loop) → (let s = c .before .before .before .before in suc (c .before .loop .i) * s .args .n ≤ s .args .m * s .args .n)
-there c = let s = c .before .before .before .before in mul-le-mul-right (s .args .n) (c .loop-test .taken)
+-- m and n
+module _ (c : tie.After-column-count) where
+  abbrev bytes : List ℕ
+  bytes = c .before .before .before .args .bytes .now
 
-mul-matrix-row : tie.Need-mul-matrix-row Inv-loop μ-loop
-mul-matrix-row c = omega (arith, there c)
+  accepted : AcceptedMatrix bytes
+  accepted = accepted-matrix bytes (c .before .before .before .pre)
 
-matrix-row-requires : tie.Need-matrix-row-requires Inv-loop μ-loop
-matrix-row-requires c κs = omega (arith, there c)
+  rows-are : c .before .row-count .result ≡ rows bytes
+  rows-are = c .before .row-count .ensures
 
-with-row-requires : tie.Need-with-row-requires Inv-loop μ-loop
-with-row-requires c κs = omega arith
+  columns-are : c .column-count .result ≡ columns bytes
+  columns-are = c .column-count .ensures
 
-add-i : tie.Need-add-i Inv-loop μ-loop
-add-i c = omega arith
+rows-of-size-requires : tie.Need-rows-of-size-requires
+rows-of-size-requires c κs = (
+  omega (arith, rows-are c, accepted c .limits .rows-most),
+  omega (arith, columns-are c, accepted c .limits .columns-most),
+  λ index h. accepted c .there index (omega (arith, ap₂ _*_ (rows-are c) (columns-are c))),
+)
 
-loop-less : tie.Need-loop-less Inv-loop μ-loop
-loop-less c = omega arith
-
-loop-again : tie.Need-loop-again Inv-loop μ-loop
-loop-again c =
-    let L = c .before .before .before in
-    let s = L .before .before .before in
-    let i = L .loop .i in
-    let out = rowsTerms (L .loop .rows) in
-    let after = rowsTerms (c .with-row .result) in
-    let h : i < s .args .m = omega arith in
-    rw (add-one i) (
-      omega arith,
-      omega (arith, ap (length {A = Row}) (c .with-row .ensures), length-append out (rowTerms (c .before .matrix-row .result) ∷ []), L .loop .inv .1),
-      rows-next positions (s .args .bytes .now) (s .args .n) i (s .args .m) (rowTerms (c .before .matrix-row .result)) out after h (c .before .matrix-row .ensures) (c .with-row .ensures) ∙ L .loop .inv .2,
-    )
-
-returns : tie.Need-returns Inv-loop μ-loop
+returns : tie.Need-returns
+unfolding matrix
 returns c =
-    let L = c .before in
-    let s = L .before .before .before in
-    rows-end positions (s .args .bytes .now) (s .args .n) (L .loop .i * s .args .n) (s .args .m - L .loop .i) (rowsTerms (L .loop .rows)) (omega arith) ∙ L .loop .inv .2
+    let d = c .before in
+    c .rows-of-size .ensures ∙ ap₂ (λ (m n : ℕ). matrixRows positions (rowsFrom (bytes d) n 0 m)) (rows-are d) (columns-are d)
 
 pub matrix-rows-spec : {M : Type 1} → statement M
 matrix-rows-spec =
     tie.close
     (tie.spec
-    Inv-loop
-    μ-loop
-    empty-requires
-    loop-holds
-    mul-matrix-row
-    matrix-row-requires
-    with-row-requires
-    add-i
-    loop-less
-    loop-again
+    row-count-requires
+    cast-m
+    column-count-requires
+    cast-n
+    rows-of-size-requires
     returns)

@@ -1,0 +1,82 @@
+/* A channel with no bank: its matrix file has no bytes. Compiles what the file named holds, or no bytes where none is named, then
+ * reads, checks and runs the netlist. Where a length is 0 it lends NULL.
+ *
+ *     rt staticlib zaatarloft
+ *     cc -I include examples/no-bank.c -L target/staticlib -lzaatarloft -o no-bank
+ */
+#include "zaatarloft.h"
+
+#include <stdio.h>
+
+static void print_refusal(const char *call, uint8_t refusal, size_t place)
+{
+    const char *words = refusal == 0 ? "accepted" : zaatarloft_refusal_words(refusal);
+    printf("%s: refusal %u at %zu, %s\n", call, refusal, place, words);
+}
+
+/* Reads a file and returns whether that went well: one that cannot be read is no empty one. */
+static int read_file(const char *name, uint8_t *bytes, size_t room, size_t *length)
+{
+    FILE *file = fopen(name, "rb");
+    if (file == NULL) {
+        return 0;
+    }
+    *length = fread(bytes, 1, room, file);
+    int failed = ferror(file);
+    fclose(file);
+    return !failed;
+}
+
+static void compile_and_run(const uint8_t *matrix, size_t length)
+{
+    uint8_t netlist[ZAATARLOFT_NETLIST_BYTES];
+
+    struct zaatarloft_compiled compiled = zaatarloft_compile(matrix, length, netlist, sizeof netlist);
+    print_refusal("compile", compiled.refusal, compiled.place);
+    printf("%zu bytes, %u operations:", compiled.written, compiled.operations);
+    for (size_t i = 0; i < compiled.written; i++) {
+        printf(" %02X", netlist[i]);
+    }
+    printf("\n");
+
+    struct zaatarloft_netlist read = zaatarloft_read(netlist, compiled.written);
+    print_refusal("read", read.refusal, read.place);
+    printf("m %u, n %u, operations %u, depth %u\n", read.m, read.n, read.operations, read.depth);
+
+    struct zaatarloft_checked checked = zaatarloft_check(matrix, length, netlist, compiled.written);
+    print_refusal("check", checked.refusal, checked.place);
+
+    struct zaatarloft_ran ran = zaatarloft_run(netlist, compiled.written, NULL, 0, NULL, 0);
+    print_refusal("run", ran.refusal, ran.place);
+}
+
+/* Every call, lent nothing at all. */
+static void lend_nothing(void)
+{
+    struct zaatarloft_compiled compiled = zaatarloft_compile(NULL, 0, NULL, 0);
+    print_refusal("compile into no bytes", compiled.refusal, compiled.place);
+    struct zaatarloft_netlist read = zaatarloft_read(NULL, 0);
+    print_refusal("read no bytes", read.refusal, read.place);
+    struct zaatarloft_checked checked = zaatarloft_check(NULL, 0, NULL, 0);
+    print_refusal("check no bytes", checked.refusal, checked.place);
+    struct zaatarloft_ran ran = zaatarloft_run(NULL, 0, NULL, 0, NULL, 0);
+    print_refusal("run no bytes", ran.refusal, ran.place);
+    struct zaatarloft_record record = zaatarloft_step(NULL, 0, 0);
+    print_refusal("step over no bytes", record.refusal, record.place);
+    printf("payload of %zu bytes, NULL: %d\n", record.payload_length, record.payload == NULL);
+    struct zaatarloft_generated generated = zaatarloft_generate(1, 1, 0, NULL, 0);
+    print_refusal("generate into no bytes", generated.refusal, generated.place);
+}
+
+int main(int argc, char **argv)
+{
+    uint8_t record[ZAATARLOFT_MATRIX_BYTES + 1]; /* a byte more than any has, so that a longer file is refused */
+    size_t length = 0;
+    if (argc > 1 && !read_file(argv[1], record, sizeof record, &length)) {
+        fprintf(stderr, "no-bank: %s cannot be read\n", argv[1]);
+        return 2;
+    }
+    compile_and_run(length == 0 ? NULL : record, length);
+    lend_nothing();
+    return 0;
+}
