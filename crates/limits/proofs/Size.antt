@@ -49,9 +49,6 @@ bank-size m n = (there m n, back)
       together = (λ h. absurd (omega (arith, l .rows-least, h)), λ h. absurd (omega (arith, l .columns-least, h)));
     }
 
-pub size-of-rows : (m n : ℕ) → (m ≡ 0 → ⊥) → BankSize m n → SizeLimits m n
-size-of-rows m n some b = ⊎-elim (λ e. absurd (some (e .0))) (λ l. l) (bank-size m n .0 b)
-
 -- where there are rows, there are inputs
 pub rows-have-inputs : (m n : ℕ) → BankSize m n → 1 ≤ m → 1 ≤ n
-rows-have-inputs m n b h = size-of-rows m n (λ e. omega (arith, e)) b .columns-least
+rows-have-inputs m n b h = ⊎-elim (λ e. absurd (omega (arith, e .0))) (λ l. l .columns-least) (bank-size m n .0 b)

@@ -55,29 +55,25 @@ inside-says m n = (λ e. size-within m n (not-true (sizeOutside m n) e), λ l. r
 
 -- m, n and operations 0, or m and n of a matrix record and operations up to the most
 abbrev HeadCases : Head → Type 0
-HeadCases h = ((h .m ≡ 0) × ((h .n ≡ 0) × (h .operations ≡ 0))) ⊎ (SizeLimits (h .m) (h .n) × (h .operations ≤ maxOperations))
+HeadCases h = (((h .m ≡ 0) × (h .n ≡ 0)) × (h .operations ≡ 0)) ⊎ (SizeLimits (h .m) (h .n) × (h .operations ≤ maxOperations))
 
 head-cases : (h : Head) → HeadCases h ↔ HeadLimits readLimits h
 head-cases h = (there, λ l. back l (bank-size (h .m) (h .n) .0 (l .limits)))
   where
     there : HeadCases h → HeadLimits readLimits h
-    there (inl e) = record { limits = bank-size (h .m) (h .n) .1 (inl (e .0, e .1 .0)); few = omega (arith, e .1 .1); none = λ z. e .1 .1 }
+    there (inl e) = record { limits = bank-size (h .m) (h .n) .1 (inl (e .0)); few = omega (arith, e .1); none = λ z. e .1 }
     there (inr s) = record { limits = bank-size (h .m) (h .n) .1 (inr (s .0)); few = s .1; none = λ z. absurd (omega (arith, z, s .0 .rows-least)) }
 
     back : HeadLimits readLimits h → ((h .m ≡ 0) × (h .n ≡ 0)) ⊎ SizeLimits (h .m) (h .n) → HeadCases h
-    back l (inl e) = inl (e .0, (e .1, l .none (e .0)))
+    back l (inl e) = inl (e, l .none (e .0))
     back l (inr s) = inr (s, l .few)
-
--- a head without rows
-pub no-rows-says : (h : Head) → h .m ≡ 0 → ((h .n ≡ 0) × (h .operations ≡ 0)) ↔ HeadLimits readLimits h
-no-rows-says h e = (λ z. head-cases h .0 (inl (e, z)), λ l. (l .limits .together .0 e, l .none e))
 
 pub head-says : (h : Head) → (headInRange h ≡ true) ↔ HeadLimits readLimits h
 head-says h =
-    let none = and-says (eqb (h .m) 0) (eqb (h .n) 0 && eqb (h .operations) 0) (same-says (h .m) 0)
-    (and-says (eqb (h .n) 0) (eqb (h .operations) 0) (same-says (h .n) 0) (same-says (h .operations) 0)) in
+    let none = and-says (eqb (h .m) 0 && eqb (h .n) 0) (eqb (h .operations) 0)
+    (and-says (eqb (h .m) 0) (eqb (h .n) 0) (same-says (h .m) 0) (same-says (h .n) 0)) (same-says (h .operations) 0) in
     let some = and-says (not (sizeOutside (h .m) (h .n))) (leb (h .operations) maxOperations) (inside-says (h .m) (h .n)) (at-most-says (h .operations) maxOperations) in
-    let all = or-says (eqb (h .m) 0 && (eqb (h .n) 0 && eqb (h .operations) 0)) (not (sizeOutside (h .m) (h .n)) && leb (h .operations) maxOperations) none some in
+    let all = or-says (eqb (h .m) 0 && eqb (h .n) 0 && eqb (h .operations) 0) (not (sizeOutside (h .m) (h .n)) && leb (h .operations) maxOperations) none some in
     (λ e. head-cases h .0 (all .0 e), λ l. all .1 (head-cases h .1 l))
 
 pub operation-says : (symbol : ℕ) (o : Operation) → (operationInRange symbol o ≡ true) ↔ OperationLimits readLimits symbol o

@@ -53,7 +53,7 @@ one-without-rows {l} {net} is no-rows =
       totals = record { operations = count i; depth = deep i };
     }
 
--- "Checking it needs no matrix bytes": what check passes against no bytes
+-- "Of a bank of no rows it needs no matrix bytes": what check passes against none
 pub check-without-bytes : (nb : List ℕ) → AreBytes nb → (checkAnswer [] nb ≡ checked 0 0) ↔ (nb ≡ netlistBytes noBank)
 unfolding matrixRefusal matrix rowsFrom
 check-without-bytes nb all = (λ e. there (check-accepts [] nb all .0 e), λ e. netlist-checked [] nb noBank (back e))

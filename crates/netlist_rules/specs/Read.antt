@@ -32,7 +32,7 @@ recordRefusal bytes place kind size =
 -- 9: m or n outside their limits, or more operations than the most; "m and n of 0 only together and only with no operations"
 abbrev pub headInRange : Head → Bool
 headInRange h =
-    (eqb (h .m) 0 && (eqb (h .n) 0 && eqb (h .operations) 0))
+    (eqb (h .m) 0 && eqb (h .n) 0 && eqb (h .operations) 0)
     || (not (sizeOutside (h .m) (h .n)) && leb (h .operations) maxOperations)
 
 unfoldable pub headRefusal : List ℕ → ℕ

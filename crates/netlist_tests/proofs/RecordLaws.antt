@@ -2,7 +2,7 @@
 -- Assumes nothing.
 use Prim.Native.Nat.{ℕ, zero, suc, _+_, _-_, _≤_, _<_}
 use mathlib.Core.Path.{_≡_, refl, sym, _∙_, ap}
-use mathlib.Core.Bool.{Bool, true, false, _&&_, true≢false}
+use mathlib.Core.Bool.{Bool, true, false, _&&_}
 use mathlib.Core.Logic.{_↔_, inl, inr}
 use mathlib.Core.List.{List, []}
 use native.Mathlib.Omega.{arith}
@@ -35,11 +35,6 @@ use Rattle.netlist_rules.proofs.ReadTests.{record-refused}
 pub fails : {P : Type 0} (t : Bool) → (t ≡ true) ↔ P → (P → ⊥) → t ≡ false
 fails true is h = absurd (h (is .0 refl))
 fails false is h = refl
-
--- a test and another of the same
-pub agrees : {P : Type 0} (t u : Bool) → (t ≡ true → P) → (P → t ≡ true) → (u ≡ true) ↔ P → t ≡ u
-agrees true u there back is = sym (is .1 (there refl))
-agrees false u there back is = sym (fails u is (λ p. true≢false (sym (back p))))
 
 -- the test of a recorded width says that it is the width, which is at most the widest
 pub width-says : (recorded w : ℕ) → (widthRight recorded w ≡ true) ↔ ((recorded ≡ w) × (w ≤ maxWidth))

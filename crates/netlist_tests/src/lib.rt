@@ -30,15 +30,12 @@ pub fn record_refusal(bytes: &[u8], place: usize, kind: u16, size: usize) -> u8
     0
 }
 
-// A head without rows is that of a bank with no inputs and no operations.
+// The sizes of a matrix record, or a bank of no rows: m, n and operations are 0.
 fn head_in_range(h: Head) -> bool
     ensures { λ r. ⌜ r ≡ headInRange h ⌝ }
 {
-    if h.m == 0 {
-        return h.n == 0 && h.operations == 0;
-    }
     if limits::size_outside(h.m, h.n) {
-        return false;
+        return h.m == 0 && h.n == 0 && h.operations == 0;
     }
     if h.operations as usize > MAX_OPERATIONS {
         return false;

@@ -1,77 +1,74 @@
 -- `netlist_tests::head_in_range` meets its contract. Assumes nothing.
-use mathlib.Core.Path.{_≡_, sym, _∙_}
-use mathlib.Core.Bool.{true≢false}
-use mathlib.Core.Logic.{inr}
+use mathlib.Core.Path.{_≡_, sym, ap, _∙_}
+use mathlib.Core.Bool.{Bool, true, false, _&&_, or-false}
+use mathlib.Core.Logic.{inr, ⊎-elim}
 use native.Mathlib.Omega.{arith}
-use borrow.Author.Tests.{eqb-true, eq-eqb}
-use Rattle.limits.specs.Size.{sizeOutside}
-use Rattle.limits.proofs.Size.{size-within, size-inside, bank-size, size-of-rows}
+use lib.Dec.{eqb}
+use borrow.Author.Tests.{eq-eqb, ne-eqb}
+use Rattle.limits.specs.Size.{SizeLimits, sizeOutside}
+use Rattle.limits.proofs.Size.{size-within, bank-size}
 use Rattle.layout_rules.specs.declared.Head.{Head}
 use Rattle.netlist_rules.specs.Read.{headInRange}
-use Rattle.netlist_rules.proofs.Conditions.{head-says, no-rows-says}
-use Rattle.netlist_tests.proofs.RecordLaws.{fails, agrees}
+use Rattle.netlist_rules.proofs.Conditions.{head-says}
+use Rattle.netlist_tests.proofs.RecordLaws.{fails}
 use borrow.Author.Needs.{needs}
 use Rattle.netlist_tests.proofs.head_in_range.Statement.{statement}
 use Rattle.netlist_tests.proofs.head_in_range.Tie as tie
 
--- without rows
-module _ (c : tie.Then1) where
-  abbrev no-rows : Head
-  no-rows = c .before .before .args .h
-
-returns : tie.Need-returns
-returns c =
-    let d = c .before .before .before in
-    let h = no-rows d in
-    agrees _ (headInRange h) (λ e. no-rows-says h (d .if1 .taken) .0 (c .before .if2 .taken, eqb-true (h .operations) 0 e))
-    (λ l. eq-eqb (h .operations) 0 (l .none (d .if1 .taken))) (head-says h)
-
-returns-2 : tie.Need-returns-2
-returns-2 c =
-    let d = c .before .before in
-    let h = no-rows d in
-    agrees _ (headInRange h) (λ e. absurd (c .if2 .left (eqb-true (h .n) 0 e))) (λ l. eq-eqb (h .n) 0 (l .limits .together .0 (d .if1 .taken))) (head-says h)
-
 size-outside-requires : tie.Need-size-outside-requires
 size-outside-requires c κs = search needs
 
--- with rows
 module _ (c : tie.After-size-outside) where
   abbrev h : Head
-  h = c .before .before .before .args .h
+  h = c .before .args .h
 
   tested : sizeOutside (h .m) (h .n) ≡ c .size-outside .result
   tested = sym (c .size-outside .ensures)
 
-returns-3 : tie.Need-returns-3
-returns-3 c =
-    let d = c .before in
-    sym (fails (headInRange (h d)) (head-says (h d))
-    (λ l. true≢false (sym (tested d ∙ c .if3 .taken) ∙ size-inside (h d .m) (h d .n) (size-of-rows (h d .m) (h d .n) (d .before .if1 .left) (l .limits)))))
+outside-says : (h : Head) → sizeOutside (h .m) (h .n) ≡ true → headInRange h ≡ (eqb (h .m) 0 && eqb (h .n) 0 && eqb (h .operations) 0)
+outside-says h e = rw e (or-false _)
+
+-- m or n outside: only m, n and operations of 0 are in range
+module _ (c : tie.Joined2) where
+  abbrev sized : tie.After-size-outside
+  sized = c .before .before .before
+
+  both : c .if2 .if3 ≡ (eqb (h sized .m) 0 && eqb (h sized .n) 0)
+  both = ⊎-elim
+      (λ t. rw (eq-eqb (h sized .m) 0 (t .0 .taken)) (t .2))
+      (λ e. let some = ne-eqb (h sized .m) 0 (e .0 .left) in rw some (e .1 ∙ some))
+      (c .if2 .came)
+
+  with-operations : (b : Bool) → c .if2 .if3 ≡ b → (b && eqb (h sized .operations) 0) ≡ headInRange (h sized)
+  with-operations b e =
+      ap (λ x. x && eqb (h sized .operations) 0) (sym e ∙ both) ∙ sym (outside-says (h sized) (tested sized ∙ c .before .before .if1 .taken))
+
+returns : tie.Need-returns
+returns c = with-operations (c .before .before) true (c .before .if3 .taken)
+
+returns-2 : tie.Need-returns-2
+returns-2 c = c .if3 .left ∙ with-operations (c .before) false (c .if3 .left)
+
+-- m and n of a matrix record
+module _ (c : tie.Else1) where
+  within : SizeLimits (h (c .before) .m) (h (c .before) .n)
+  within = size-within _ _ (tested (c .before) ∙ c .if1 .left)
 
 cast-if4 : tie.Need-cast-if4
 cast-if4 c = search needs
 
-returns-4 : tie.Need-returns-4
-returns-4 c = let d = c .before .before .before in sym (fails (headInRange (h d)) (head-says (h d)) (λ l. omega (arith, l .few)))
+returns-3 : tie.Need-returns-3
+returns-3 c = let d = c .before .before .before in sym (fails (headInRange (h d)) (head-says (h d)) (λ l. omega (arith, l .few)))
 
-returns-5 : tie.Need-returns-5
-returns-5 c =
-    let d = c .before .before .before in
+returns-4 : tie.Need-returns-4
+returns-4 c =
+    let e = c .before .before in
+    let d = e .before in
     sym (head-says (h d) .1 (record {
-      limits = bank-size (h d .m) (h d .n) .1 (inr (size-within (h d .m) (h d .n) (tested d ∙ c .before .before .if3 .left)));
+      limits = bank-size (h d .m) (h d .n) .1 (inr (within e));
       few = omega arith;
-      none = λ z. absurd (d .before .if1 .left z);
+      none = λ z. absurd (omega (arith, z, within e .rows-least));
     }))
 
 pub head-in-range-spec : {M : Type 1} → statement M
-head-in-range-spec =
-    tie.close
-    (tie.spec
-    returns
-    returns-2
-    size-outside-requires
-    returns-3
-    cast-if4
-    returns-4
-    returns-5)
+head-in-range-spec = tie.close (tie.spec size-outside-requires returns returns-2 cast-if4 returns-3 returns-4)
