@@ -29,7 +29,8 @@ use Rattle.bank_rules.specs.declared.Answers.{Answers}
 
 -- ---- what is given
 
--- document 01, "Matrix record": "Such a matrix is within the limits."; "No bytes mean a bank of no rows and no inputs, also within the limits"
+-- document 01, "Matrix record": "Such a matrix is within the limits."; "No bytes mean a bank of no rows and no inputs, also within the
+-- limits"
 pub record MatrixWithinLimits (bytes : List ℕ) : Type 0 where
   -- each is below 256 (past the end 0 is read)
   pub are-bytes : (i : ℕ) → getD bytes i 0 < 256
@@ -59,7 +60,7 @@ bytesWritten answer buffer = take (answer .written) buffer
 abbrev pub Overlap : ℕ → Pair → ℕ → Pair → Type 0
 Overlap i p j q = (i ≡ j) × (overlap p q ≡ true)
 
--- the matrix record, the buffer after compile, the samples, the outputs after run, and what the three calls returned
+-- the matrix's bytes, the buffer after compile, the samples, the outputs after run, and what the three calls returned
 pub record Claim (matrixBytes buffer : List ℕ) (samples outputs : List ℤ) (answers : Answers) : Type 0 where
   -- "Compile accepts the matrix, and read and run accept the bytes it wrote."
   pub compile-accepts : Accepts (answers .compile .refusal) (answers .compile .place)
@@ -122,7 +123,7 @@ pub record Claim (matrixBytes buffer : List ℕ) (samples outputs : List ℤ) (a
 
 -- ---- what is claimed of the three calls' definitions
 
--- compile is lent the matrix record and the buffer; read the bytes it wrote; run these, the samples and the outputs
+-- compile is lent the matrix's bytes and the buffer; read the bytes it wrote; run these, the samples and the outputs
 abbrev pub answersOf : List ℕ → List ℕ → List ℤ → List ℤ → Answers
 answersOf matrixBytes buffer samples outputs =
     let compiled = compileAnswer matrixBytes (length buffer) in

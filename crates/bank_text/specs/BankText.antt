@@ -1,4 +1,4 @@
--- Document 01, "Programs": what the program list-bank prints for a matrix record.
+-- Document 01, "Programs": what the program list-bank prints for a matrix's bytes.
 -- Assumes nothing.
 use Prim.Native.Nat.{ℕ, zero, suc}
 use mathlib.Core.List.{List}

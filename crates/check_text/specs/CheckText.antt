@@ -1,4 +1,4 @@
--- Document 01, "Programs": what the program check-bank prints for a matrix record and a netlist.
+-- Document 01, "Programs": what the program check-bank prints for a matrix's bytes and a netlist.
 -- Assumes nothing.
 use Prim.Native.Nat.{ℕ, zero, suc}
 use mathlib.Core.List.{List}

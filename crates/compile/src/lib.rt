@@ -25,7 +25,8 @@ fn negated_count(outputs: Outputs) -> u16
     negated
 }
 
-// From a matrix record, or no bytes, to its netlist, at the start of the lent buffer. Nothing is written before it is known that all of it fits.
+// From a matrix record, or no bytes, to the netlist, at the start of the lent buffer. Nothing is written before it is known that all of
+// it fits.
 pub fn compile(matrix: &[u8], buffer: &mut [u8]) -> CompileAnswer
     ensures { λ r. ⌜ r ≡ compileAnswer (now (matrix .entry)) (length (now (buffer .entry))) ⌝ }
     ensures { λ _. ⌜ now (buffer .exit) ≡ compileBuffer (now (matrix .entry)) (now (buffer .entry)) ⌝ }

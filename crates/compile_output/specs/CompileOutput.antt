@@ -1,4 +1,4 @@
--- Document 01, "Programs": what the program compile-bank writes for a matrix record.
+-- Document 01, "Programs": what the program compile-bank writes for a matrix's bytes.
 -- Assumes nothing.
 use Prim.Native.Nat.{ℕ, zero, suc}
 use mathlib.Core.List.{List}

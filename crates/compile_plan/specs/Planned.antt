@@ -1,4 +1,4 @@
--- What is worked out of a matrix record before anything is written: elimination's end, and the operations, outputs and counts of compile.
+-- What is worked out of a matrix before anything is written: elimination's end, and the operations, outputs and counts of compile.
 -- Assumes nothing.
 use Prim.Native.Nat.{ℕ}
 use mathlib.Core.Path.{_≡_}

@@ -1,4 +1,4 @@
-// Document 01, "Elimination" and "Netlist and board machine": the operations and outputs of a matrix record, without widths, and what
+// Document 01, "Elimination" and "Netlist and board machine": the operations and outputs of a matrix, without widths, and what
 // compile counts. Rests on `elimination_state`, `compile_sums` and `layout_matrix`.
 pub mod rows; // rows.rt: the rows of a matrix
 pub mod eliminated; // eliminated.rt: elimination

@@ -42,6 +42,7 @@ marked-banks = record {
   compiled-shallower = refl;
   bytes-three = refl;
   answer-three = refl;
+  compiled-none = refl;
   bytes-none = refl;
   answer-none = refl;
 }

@@ -12,9 +12,9 @@ use Rattle.elimination_rules.specs.Elimination.{matrixElimination}
 use Rattle.elimination_rules.specs.Marked.{MarkedElimination, single, fourByFour}
 use Rattle.layout_rules.specs.declared.Operation.{Operation}
 use Rattle.layout_rules.specs.declared.Output.{Output}
-use Rattle.layout_rules.specs.Records.{Netlist}
+use Rattle.layout_rules.specs.Records.{Netlist, netlistWithoutRows}
 use Rattle.board_rules.specs.Marked.{MarkedWidths, sumOfTwo, negatedSample, sumOfEight, negatedSum}
-use Rattle.compile_rules.specs.Compile.{netlistOf, negatedOutputs, compiledBytes, compileAnswer}
+use Rattle.compile_rules.specs.Compile.{netlistOf, negatedOutputs, compiledNetlist, compiledBytes, compileAnswer}
 use Rattle.compile_rules.specs.declared.CompileAnswer.{CompileAnswer}
 
 -- the netlist of a matrix of m rows and n columns
@@ -40,12 +40,12 @@ abbrev pub threeMinusThreeAnswer : CompileAnswer
 threeMinusThreeAnswer =
     record { refusal = 0; place = 0; written = 49; operations = 2; plain = 3; divisors = 1; replacements = 2; depth = 2; negated = 0 }
 
--- the netlist and the answer of no bytes: a head with m, n and operations 0, then totals of 0
-abbrev pub noBankNetlist : List ℕ
-noBankNetlist = 0x08 ∷ 0x00 ∷ 0x02 ∷ 0x00 ∷ 0x00 ∷ 0x00 ∷ 0x00 ∷ 0x00 ∷ 0x08 ∷ 0x00 ∷ 0x05 ∷ 0x00 ∷ 0x00 ∷ 0x00 ∷ 0x00 ∷ 0x00 ∷ []
+-- the netlist's bytes and the answer of no bytes
+abbrev pub noBytesNetlist : List ℕ
+noBytesNetlist = 0x08 ∷ 0x00 ∷ 0x02 ∷ 0x00 ∷ 0x00 ∷ 0x00 ∷ 0x00 ∷ 0x00 ∷ 0x08 ∷ 0x00 ∷ 0x05 ∷ 0x00 ∷ 0x00 ∷ 0x00 ∷ 0x00 ∷ 0x00 ∷ []
 
-abbrev pub noBankAnswer : CompileAnswer
-noBankAnswer =
+abbrev pub noBytesAnswer : CompileAnswer
+noBytesAnswer =
     record { refusal = 0; place = 0; written = 16; operations = 0; plain = 0; divisors = 0; replacements = 0; depth = 0; negated = 0 }
 
 -- row −3, 5, 7, −1: no divisor, seven terms; 4 = 0<<0 - 0<<2 width 18; 5 = 1<<0 + 1<<2 width 19; 6 = 2<<3 - 2<<0 width 19;
@@ -114,5 +114,6 @@ pub record MarkedBanks : Type 0 where
   pub bytes-three : compiledBytes threeMinusThreeRecord ≡ threeMinusThreeNetlist
   pub answer-three : compileAnswer threeMinusThreeRecord 49 ≡ threeMinusThreeAnswer
   -- no bytes
-  pub bytes-none : compiledBytes [] ≡ noBankNetlist
-  pub answer-none : compileAnswer [] 16 ≡ noBankAnswer
+  pub compiled-none : compiledNetlist [] ≡ netlistWithoutRows
+  pub bytes-none : compiledBytes [] ≡ noBytesNetlist
+  pub answer-none : compileAnswer [] 16 ≡ noBytesAnswer

@@ -7,6 +7,6 @@ use lib.ListN.{length}
 use Rattle.layout_rules.specs.Tests.{Test, tested, matrixTests}
 use Rattle.compile_rules.specs.Compile.{compiledBytes}
 
--- 1 to 5, of the matrix record; 6: the output buffer, of so many bytes, is shorter than the netlist
+-- 1 to 5, of the matrix's bytes; 6: the output buffer, of so many bytes, is shorter than the netlist
 unfoldable pub compileTests : List ℕ → ℕ → List Test
 compileTests bytes room = matrixTests bytes ++ (tested 6 0 (length (compiledBytes bytes) ≤ room) ∷ [])

@@ -17,8 +17,8 @@ pub record Netlist : Type 0 where
   pub totals : Totals
 
 -- the netlist of no bytes: "a head with m, n and operations 0, then totals of 0"
-abbrev pub noBank : Netlist
-noBank =
+abbrev pub netlistWithoutRows : Netlist
+netlistWithoutRows =
     record {
       head = record { m = 0; n = 0; operations = 0 };
       operations = [];

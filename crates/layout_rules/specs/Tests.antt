@@ -1,6 +1,6 @@
 -- Document 01, "Why a record was declined": tests in their order, each with the number and the place that are returned where it is the
--- first that fails, and the tests of a matrix's bytes. Nothing here computes an answer; the calls are held to such lists. In a list a comment
--- says in document 01's words when a test fails, and the statement what holds where it passes.
+-- first that fails, and the tests of a matrix's bytes. Nothing here computes an answer; the calls are held to such lists. In a list a
+-- comment says in document 01's words when a test fails, and the statement what holds where it passes.
 -- Assumes nothing.
 use Prim.Native.Nat.{ℕ, zero, suc, _≤_}
 use mathlib.Core.Path.{_≡_}

@@ -8,7 +8,7 @@ use native.Mathlib.Omega.{arith}
 use lib.ListN.{length, length-append}
 use Rattle.limits.proofs.Size.{bank-size}
 use Rattle.layout_rules.specs.Matrix.{matrixRefusal, matrix, rowsFrom}
-use Rattle.layout_rules.specs.Records.{Netlist, noBank, netlistBytes}
+use Rattle.layout_rules.specs.Records.{Netlist, netlistWithoutRows, netlistBytes}
 use Rattle.layout_rules.proofs.LittleEndian.{AreBytes}
 use Rattle.board_rules.specs.Machine.{depth}
 use Rattle.board_rules.specs.Netlist.{Limits, IsNetlist}
@@ -28,8 +28,8 @@ unfolding depth
 no-depth = refl
 
 -- whatever the limits
-pub no-bank-netlist : (l : Limits) → IsNetlist l noBank
-no-bank-netlist l = record {
+pub without-rows-is : (l : Limits) → IsNetlist l netlistWithoutRows
+without-rows-is l = record {
   head = record { limits = bank-size 0 0 .1 (inl (refl, refl)); few = omega arith; none = λ e. refl };
   count = refl;
   one-per-row = refl;
@@ -38,7 +38,7 @@ no-bank-netlist l = record {
   totals = record { count = refl; deepest = sym no-depth };
 }
 
-pub one-without-rows : {l : Limits} {net : Netlist} → IsNetlist l net → net .head .m ≡ 0 → net ≡ noBank
+pub one-without-rows : {l : Limits} {net : Netlist} → IsNetlist l net → net .head .m ≡ 0 → net ≡ netlistWithoutRows
 one-without-rows {l} {net} is no-rows =
     let no-inputs : net .head .n ≡ 0 = is .head .limits .together .0 no-rows in
     let no-operations : net .head .operations ≡ 0 = is .head .none no-rows in
@@ -54,17 +54,17 @@ one-without-rows {l} {net} is no-rows =
     }
 
 -- "Of a bank of no rows it needs no matrix bytes": what check passes against none
-pub check-without-bytes : (nb : List ℕ) → AreBytes nb → (checkAnswer [] nb ≡ checked 0 0) ↔ (nb ≡ netlistBytes noBank)
+pub check-without-bytes : (nb : List ℕ) → AreBytes nb → (checkAnswer [] nb ≡ checked 0 0) ↔ (nb ≡ netlistBytes netlistWithoutRows)
 unfolding matrixRefusal matrix rowsFrom
-check-without-bytes nb all = (λ e. there (check-accepts [] nb all .0 e), λ e. netlist-checked [] nb noBank (back e))
+check-without-bytes nb all = (λ e. there (check-accepts [] nb all .0 e), λ e. netlist-checked [] nb netlistWithoutRows (back e))
   where
-    there : (net : Netlist) × IsNetlistOf [] nb net → nb ≡ netlistBytes noBank
+    there : (net : Netlist) × IsNetlistOf [] nb net → nb ≡ netlistBytes netlistWithoutRows
     there x = x .1 .netlist .bytes ∙ ap netlistBytes (one-without-rows (x .1 .netlist .netlist) (sym (x .1 .size .same-rows)))
 
-    back : nb ≡ netlistBytes noBank → IsNetlistOf [] nb noBank
+    back : nb ≡ netlistBytes netlistWithoutRows → IsNetlistOf [] nb netlistWithoutRows
     back e = record {
       within-limits = refl;
-      netlist = record { netlist = no-bank-netlist readLimits; bytes = e };
+      netlist = record { netlist = without-rows-is readLimits; bytes = e };
       size = record { same-rows = refl; same-columns = refl };
       computes = λ xs h. refl;
     }

@@ -1,6 +1,6 @@
 -- Document 01, "Why a record was declined": the tests of read, check and run in their order, each with the number and the place that
 -- are returned where it is the first that fails. Nothing here computes an answer; read, check and run are held to these lists. The tests
--- of a matrix record, 1 to 5, are those of `layout_rules`.
+-- of a matrix's bytes, 1 to 5, are those of `layout_rules`.
 -- Assumes nothing.
 use Prim.Native.Nat.{ℕ, _+_, _≤_}
 use mathlib.Core.Path.{_≡_}

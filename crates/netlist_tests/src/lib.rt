@@ -30,7 +30,7 @@ pub fn record_refusal(bytes: &[u8], place: usize, kind: u16, size: usize) -> u8
     0
 }
 
-// The sizes of a matrix record, or a bank of no rows: m, n and operations are 0.
+// m and n of a matrix record and not too many operations, or all three 0: a bank of no rows.
 fn head_in_range(h: Head) -> bool
     ensures { λ r. ⌜ r ≡ headInRange h ⌝ }
 {

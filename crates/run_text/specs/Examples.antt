@@ -3,7 +3,7 @@
 use Prim.Native.Nat.{ℕ}
 use mathlib.Core.Path.{_≡_}
 use mathlib.Core.List.{List, [], _∷_}
-use Rattle.layout_rules.specs.Records.{noBank, netlistBytes}
+use Rattle.layout_rules.specs.Records.{netlistWithoutRows, netlistBytes}
 use Rattle.text.specs.Text.{ascii}
 use Rattle.listing_rules.specs.Marked.{operations, outputs}
 use Rattle.run_text.specs.RunText.{runText}
@@ -26,7 +26,7 @@ pub record RunExamples : Type 0 where
   pub one-sample : runText exampleNetlist (0xFF ∷ 0x7F ∷ []) ≡ ascii "refused 15 at 0\n"
   pub odd : runText exampleNetlist (0xFF ∷ 0x7F ∷ 0x00 ∷ []) ≡ ascii "refused 15 at 0\n"
   -- a bank of no rows and no inputs: no samples, one sample, an odd number of bytes
-  pub no-samples : runText (netlistBytes noBank) [] ≡ []
-  pub one-sample-more : runText (netlistBytes noBank) (0xFF ∷ 0x7F ∷ []) ≡ ascii "refused 15 at 0\n"
-  pub odd-none : runText (netlistBytes noBank) (0xFF ∷ []) ≡ ascii "refused 15 at 0\n"
+  pub no-samples : runText (netlistBytes netlistWithoutRows) [] ≡ []
+  pub one-sample-more : runText (netlistBytes netlistWithoutRows) (0xFF ∷ 0x7F ∷ []) ≡ ascii "refused 15 at 0\n"
+  pub odd-none : runText (netlistBytes netlistWithoutRows) (0xFF ∷ []) ≡ ascii "refused 15 at 0\n"
   pub no-netlist : runText [] (0xFF ∷ 0x7F ∷ []) ≡ ascii "refused 7 at 0\n"

@@ -11,7 +11,7 @@ ghost use Rattle.netlist_rules.specs.Run.{runAnswer, runOutputs};
 ghost use Rattle.layout_rules.specs.Step.{stepNumbers};
 ghost use Rattle.generator.specs.Generator.{generateAnswer, generateBuffer};
 
-// Compile: from a matrix record to its netlist, at the start of the lent buffer.
+// Compile: from a matrix record, or no bytes, to the netlist, at the start of the lent buffer.
 #[no_mangle]
 pub extern "C" fn zaatarloft_raw_compile(
     matrix: &[u8],
