@@ -9,7 +9,7 @@ use native.Mathlib.Nat.{pow-succ', eq-zero-or-pos}
 use lib.ListN.{length, take, drop, set, length-append, length-drop, length-set}
 use lib.Seq.{set-split, drop-at, length-take-le, take-all}
 use borrow.Author.Tests.{lt-ltb, le-ltb}
-use Rattle.text.specs.Decimal.{digitByte, decimal, number}
+use Rattle.text.specs.Decimal.{digitByte, decimal, number, valueBehind, decimalValue}
 
 -- a number has more digits than one, or one
 more-or-one : (n : ℕ) → (10 ≤ n) ⊎ (n < 10)
@@ -59,37 +59,32 @@ length-number (suc k) n h =
     (λ s. rw (number-small n s) (omega arith))
     (more-or-one n)
 
--- what digits, highest first, say behind a value
-pub readBack : ℕ → List ℕ → ℕ
-readBack value [] = value
-readBack value (d ∷ ds) = readBack (10 * value + (d - 48)) ds
-
-read-append : (value : ℕ) (ds more : List ℕ) → readBack value (ds ++ more) ≡ readBack (readBack value ds) more
-unfolding readBack
+read-append : (value : ℕ) (ds more : List ℕ) → valueBehind value (ds ++ more) ≡ valueBehind (valueBehind value ds) more
+unfolding valueBehind
 read-append value [] more = refl
 read-append value (d ∷ ds) more = read-append (10 * value + (d - 48)) ds more
 
-read-last : (n : ℕ) → readBack (n / 10) (digitByte (n % 10) ∷ []) ≡ n
-unfolding readBack
+read-last : (n : ℕ) → valueBehind (n / 10) (digitByte (n % 10) ∷ []) ≡ n
+unfolding valueBehind
 read-last n = omega arith
 
-read-only : (n : ℕ) → readBack 0 (digitByte n ∷ []) ≡ n
-unfolding readBack
+read-only : (n : ℕ) → valueBehind 0 (digitByte n ∷ []) ≡ n
+unfolding valueBehind
 read-only n = omega arith
 
-decimal-back : (most n : ℕ) → n < most → readBack 0 (decimal most n) ≡ n
+decimal-back : (most n : ℕ) → n < most → decimalValue (decimal most n) ≡ n
 decimal-back zero n h = omega arith
 decimal-back (suc most) n h =
     ⊎-elim
-    (λ l. ap (readBack 0) (decimal-large most n l)
+    (λ l. ap (valueBehind 0) (decimal-large most n l)
     ∙ read-append 0 (decimal most (n / 10)) (digitByte (n % 10) ∷ [])
-    ∙ ap (λ (v : ℕ). readBack v (digitByte (n % 10) ∷ [])) (decimal-back most (n / 10) (omega arith))
+    ∙ ap (λ (v : ℕ). valueBehind v (digitByte (n % 10) ∷ [])) (decimal-back most (n / 10) (omega arith))
     ∙ read-last n)
-    (λ s. ap (readBack 0) (decimal-small most n s) ∙ read-only n)
+    (λ s. ap (valueBehind 0) (decimal-small most n s) ∙ read-only n)
     (more-or-one n)
 
 -- the digits of a number read back as the number
-pub number-back : (n : ℕ) → readBack 0 (number n) ≡ n
+pub number-back : (n : ℕ) → decimalValue (number n) ≡ n
 unfolding number
 number-back n = decimal-back (suc n) n (omega arith)
 

@@ -1,6 +1,6 @@
 -- Numbers in decimal, as bytes.
 -- Assumes nothing.
-use Prim.Native.Nat.{ℕ, zero, suc, _+_, _/_, _%_}
+use Prim.Native.Nat.{ℕ, zero, suc, _+_, _*_, _-_, _/_, _%_}
 use mathlib.Core.Bool.{true, false}
 use mathlib.Core.List.{List, [], _∷_, _++_}
 use lib.Dec.{ltb}
@@ -17,3 +17,12 @@ decimal (suc most) n = elim (ltb n 10) [ true ↦ digitByte n ∷ [] | false ↦
 -- a number n has at most n + 1 digits
 unfoldable pub number : ℕ → List ℕ
 number n = decimal (suc n) n
+
+-- the number that digits say, highest first, behind those that said a value
+unfoldable pub valueBehind : ℕ → List ℕ → ℕ
+valueBehind value [] = value
+valueBehind value (d ∷ ds) = valueBehind (10 * value + (d - digitByte 0)) ds
+
+-- the number that digits say
+abbrev pub decimalValue : List ℕ → ℕ
+decimalValue ds = valueBehind 0 ds
