@@ -2,18 +2,14 @@
 -- Assumes nothing.
 use Prim.Native.Nat.{ℕ, suc, _+_, _*_, _-_, _≤_, _<_}
 use mathlib.Core.Path.{_≡_, refl, sym, ap, _∙_}
-use mathlib.Core.List.{List, _++_, flatMap}
+use mathlib.Core.List.{List, flatMap}
 use native.Mathlib.Omega.{arith}
-use native.Mathlib.Nat.{zero-add}
-use lib.ListN.{length, drop}
+use lib.ListN.{length}
 use Rattle.layout_rules.specs.Bytes.{littleEndian}
 use Rattle.layout_rules.specs.Matrix.{coefficientPlace}
 use Rattle.layout_rules.specs.Written.{written}
-use Rattle.layout_rules.proofs.Lengths.{length-records}
-use Rattle.layout_rules.proofs.Written.{written-start, written-after, record-length, record-next, records-none}
-use Rattle.layout_matrix.specs.Head.{matrixHead}
-use Rattle.layout_matrix.proofs.HeadLaws.{head-then-coefficients}
-use Rattle.generator.specs.Generator.{grown, upperHalf, generatedWords, generatedRecord}
+use Rattle.layout_rules.proofs.Written.{record-length, record-next, records-none}
+use Rattle.generator.specs.Generator.{grown, upperHalf, generatedWords}
 use Rattle.generator.proofs.States.{length-generated}
 
 -- the coefficients from an index on, at their place
@@ -40,17 +36,3 @@ unfolding generatedWords
 coefficients-end buffer state count index h =
     let none : count - index ≡ 0 = omega arith in
     records-none littleEndian 2 (λ x. refl) buffer (coefficientPlace index) (generatedWords state (count - index)) (ap (generatedWords state) none)
-
--- head and coefficients are the record
-pub record-written : (m n seed : ℕ) (buffer with-head : List ℕ) → coefficientPlace (m * n) ≤ length buffer
-    → with-head ≡ matrixHead m n ++ drop (coefficientPlace 0) buffer
-    → written with-head (coefficientPlace 0) (flatMap littleEndian (generatedWords seed (m * n)))
-    ≡ generatedRecord m n seed ++ drop (length (generatedRecord m n seed)) buffer
-unfolding generatedRecord
-record-written m n seed buffer with-head room e =
-    let words : List ℕ = generatedWords seed (m * n) in
-    let whole : length words ≡ m * n = length-generated seed (m * n) in
-    ap (λ (l : List ℕ). written l (coefficientPlace 0) (flatMap littleEndian words)) (e ∙ written-start buffer (matrixHead m n) (coefficientPlace 0) refl)
-    ∙ written-after buffer 0 (matrixHead m n) (flatMap littleEndian words) (coefficientPlace 0) refl (omega (arith, whole, length-records littleEndian 2 (λ x. refl) words))
-    ∙ ap (written buffer 0) (sym (head-then-coefficients m n words whole))
-    ∙ rw zero-add

@@ -1,16 +1,17 @@
--- Lines one after another: they are the text, the text from a line's place on has the lines from it on, and no line is empty or has a line
--- feed before its end.
+-- Lines one after another: they are the text, and the text from a line's place on has the lines from it on. The first lines that pass a
+-- test, as many as there are.
 -- Assumes nothing.
 use Prim.Native.Nat.{ℕ, zero, suc, _+_, _-_, _≤_, _<_}
 use mathlib.Core.Path.{_≡_, refl, sym, ap, ap₂, _∙_}
 use mathlib.Core.Bool.{Bool, true, false}
 use mathlib.Core.List.{List, [], _∷_, _++_, flatten}
-use native.Mathlib.Nat.{add-assoc, zero-add}
+use native.Mathlib.Decide.{decLt}
+use native.Mathlib.Nat.{add-assoc, add-zero, zero-add}
 use native.Mathlib.Omega.{arith}
 use lib.Dec.{eqb}
-use lib.ListN.{length, getD, take, drop, length-append}
-use lib.Seq.{drop-drop, take-append-seam, getD-drop}
-use Rattle.market_rules.specs.Lines.{lineFeed, beforeLines, lines, line, linePlace}
+use lib.ListN.{length, getD, take, drop, length-append, length-drop, drop-of-length-le}
+use lib.Seq.{drop-drop, take-all, take-append-seam, getD-drop}
+use Rattle.market_rules.specs.Lines.{lineFeed, beforeLines, lines, line, linePlace, leadingLines}
 
 -- ---- all lines together
 
@@ -95,6 +96,14 @@ place-from text (suc k) i =
     ∙ ap₂ (λ (p : ℕ) (rest : List ℕ). p + linePlace rest i) (sym (place-behind text k))
     (drop-drop (linePlace behind k) first text ∙ ap (λ (p : ℕ). drop p text) (sym (place-behind text k)))
 
+-- that of the next line
+place-second : (text : List ℕ) → linePlace text 1 ≡ length (line text 0)
+unfolding flatten
+place-second text = place-behind text 0 ∙ add-zero (length (line text 0))
+
+pub place-next : (text : List ℕ) (k : ℕ) → linePlace text (k + 1) ≡ linePlace text k + length (line (drop (linePlace text k) text) 0)
+place-next text k = place-from text k 1 ∙ ap (λ (p : ℕ). linePlace text k + p) (place-second (drop (linePlace text k) text))
+
 -- the first line's bytes
 first-taken : (ls : List (List ℕ)) → take (length (getD ls 0 [])) (flatten ls) ≡ getD ls 0 []
 unfolding flatten
@@ -103,6 +112,12 @@ first-taken (first ∷ more) = take-append-seam first (flatten more)
 
 pub line-taken : (text : List ℕ) → take (length (line text 0)) text ≡ line text 0
 line-taken text = ap (take (length (line text 0))) (sym (lines-flatten text)) ∙ first-taken (lines text)
+
+-- the part of a text that is the line at a place
+pub line-part : (text : List ℕ) (place end : ℕ) → end ≡ place + length (line (drop place text) 0) → take (end - place) (drop place text) ≡ line (drop place text) 0
+line-part text place end e =
+    let size : end - place ≡ length (line (drop place text) 0) = omega (arith, e) in
+    ap (λ (k : ℕ). take k (drop place text)) size ∙ line-taken (drop place text)
 
 -- no place lies behind the text's end
 taken-within : (ls : List (List ℕ)) (k : ℕ) → length (flatten (take k ls)) ≤ length (flatten ls)
@@ -114,3 +129,66 @@ taken-within (first ∷ more) (suc k) =
 
 pub place-within : (text : List ℕ) (k : ℕ) → linePlace text k ≤ length text
 place-within text k = omega (arith, taken-within (lines text) k, ap length (lines-flatten text))
+
+-- a line that is there starts before the text's end, and one that is missing at it
+pub place-there : (text : List ℕ) (k : ℕ) → k < length (lines text) → linePlace text k < length text
+place-there text k h = go (decLt (linePlace text k) (length text))
+  where
+    go : Dec (linePlace text k < length text) → linePlace text k < length text
+    go (yes l) = l
+    go (no l) =
+        let none : drop (linePlace text k) text ≡ [] = drop-of-length-le text {i = linePlace text k} (omega arith) in
+        let lines-none : drop k (lines text) ≡ [] = sym (lines-from text k) ∙ ap lines none ∙ (unfold lines in refl) in
+        absurd (omega (arith, ap length lines-none, length-drop k (lines text)))
+
+pub place-missing : (text : List ℕ) (k : ℕ) → length (lines text) ≤ k → linePlace text k ≡ length text
+place-missing text k h = ap (λ (ls : List (List ℕ)). length (flatten ls)) (take-all k (lines text) h) ∙ ap length (lines-flatten text)
+
+-- ---- the first lines that pass a test
+
+module _ (test : List ℕ → Bool) where
+  abbrev leading : List (List ℕ) → ℕ
+  leading = leadingLines test
+
+  abbrev counted : List (List ℕ) → Bool → ℕ
+  counted more t = elim t [ true ↦ suc (leading more) | false ↦ 0 ]
+
+  pub leading-one : (first : List ℕ) (more : List (List ℕ)) → test first ≡ true → leading (first ∷ more) ≡ suc (leading more)
+  unfolding leadingLines
+  leading-one first more e = ap (counted more) e
+
+  pub leading-none : (first : List ℕ) (more : List (List ℕ)) → test first ≡ false → leading (first ∷ more) ≡ 0
+  unfolding leadingLines
+  leading-none first more e = ap (counted more) e
+
+  pub leading-within : (ls : List (List ℕ)) → leading ls ≤ length ls
+  unfolding leadingLines
+  leading-within [] = omega arith
+  leading-within (first ∷ more) = go (test first) (leading-within more)
+    where
+      go : (t : Bool) → leading more ≤ length more → counted more t ≤ suc (length more)
+      go true h = omega arith
+      go false h = omega arith
+
+  -- each of them passes it
+  pub leading-passes : (ls : List (List ℕ)) (i : ℕ) → i < leading ls → test (getD ls i []) ≡ true
+  unfolding leadingLines
+  leading-passes [] i h = absurd (omega arith)
+  leading-passes (first ∷ more) i h = go (test first) refl (leading-passes more) i h
+    where
+      go : (t : Bool) → test first ≡ t → ((i : ℕ) → i < leading more → test (getD more i []) ≡ true)
+          → (i : ℕ) → i < counted more t → test (getD (first ∷ more) i []) ≡ true
+      go true e each zero h = e
+      go true e each (suc i) h = each i (omega arith)
+      go false e each i h = absurd (omega arith)
+
+  -- the next line, if there is one, does not
+  pub leading-stops : (ls : List (List ℕ)) → leading ls < length ls → test (getD ls (leading ls) []) ≡ false
+  unfolding leadingLines
+  leading-stops [] h = absurd (omega arith)
+  leading-stops (first ∷ more) h = go (test first) refl (leading-stops more) h
+    where
+      go : (t : Bool) → test first ≡ t → (leading more < length more → test (getD more (leading more) []) ≡ false)
+          → counted more t < suc (length more) → test (getD (first ∷ more) (counted more t) []) ≡ false
+      go true e none h = none (omega arith)
+      go false e none h = e

@@ -1,7 +1,7 @@
--- Document 01, "Matrix Market files": a text as lines, and the places where they start.
+-- Document 01, "Matrix Market files": a text as lines, the places where they start, and the first of them that pass a test.
 -- Assumes nothing.
-use Prim.Native.Nat.{ℕ}
-use mathlib.Core.Bool.{true, false}
+use Prim.Native.Nat.{ℕ, suc}
+use mathlib.Core.Bool.{Bool, true, false}
 use mathlib.Core.List.{List, [], _∷_, flatten}
 use lib.Dec.{eqb}
 use lib.ListN.{length, getD, take}
@@ -23,6 +23,11 @@ lines (b ∷ text) = elim (eqb b lineFeed) [ true ↦ (b ∷ []) ∷ lines text 
 -- line k; no bytes where it is missing
 abbrev pub line : List ℕ → ℕ → List ℕ
 line text k = getD (lines text) k []
+
+-- how many lines, from the first of them on, pass a test
+unfoldable pub leadingLines : (List ℕ → Bool) → List (List ℕ) → ℕ
+leadingLines test [] = 0
+leadingLines test (first ∷ more) = elim (test first) [ true ↦ suc (leadingLines test more) | false ↦ 0 ]
 
 -- "the start of the line", "or the file's end where a line is missing"
 abbrev pub linePlace : List ℕ → ℕ → ℕ

@@ -10,15 +10,14 @@ use Rattle.limits.specs.Size.{sizeOutside}
 use Rattle.layout_rules.specs.Matrix.{matrixRecord}
 use Rattle.layout_rules.specs.Places.{firstRecords}
 use Rattle.market_rules.specs.declared.MarketAnswer.{MarketAnswer}
-use Rattle.market_rules.specs.Lines.{lines, line, linePlace}
+use Rattle.market_rules.specs.Lines.{lines, line, linePlace, leadingLines}
 use Rattle.market_rules.specs.Forms.{same, firstLine, isComment, isSize, sizeRows, sizeColumns, isEntry, entryValue}
 
 -- ---- the lines of a file
 
 -- how many lines, from the first of them on, are comments
-unfoldable pub comments : List (List ℕ) → ℕ
-comments [] = 0
-comments (first ∷ more) = elim (isComment first) [ true ↦ suc (comments more) | false ↦ 0 ]
+abbrev pub comments : List (List ℕ) → ℕ
+comments ls = leadingLines isComment ls
 
 -- the size line is the first behind the first line that is no comment: its number, its place, and the m and n that it says
 unfoldable pub sizeIndex : List ℕ → ℕ
@@ -74,9 +73,8 @@ abbrev pub marketAccepted : List ℕ → MarketAnswer
 marketAccepted text = record { refusal = 0; place = 0; written = length (marketRecord text) }
 
 -- how many lines, from the first of them on, are entries
-unfoldable pub entries : List (List ℕ) → ℕ
-entries [] = 0
-entries (first ∷ more) = elim (isEntry first) [ true ↦ suc (entries more) | false ↦ 0 ]
+abbrev pub entries : List (List ℕ) → ℕ
+entries ls = leadingLines isEntry ls
 
 -- 19: one of the first m times n entry lines is not an integer from −32,768 to 32,767, tested line by line; 18: the entries are too few or
 -- too many; 6: the buffer, of so many bytes, is shorter than the record

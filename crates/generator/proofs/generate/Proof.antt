@@ -9,8 +9,10 @@ use Rattle.limits.specs.Size.{SizeLimits, sizeOutside}
 use Rattle.limits.proofs.Size.{size-within}
 use Rattle.layout_rules.specs.Matrix.{matrixLength, longestRecord}
 use Rattle.layout_rules.proofs.MatrixRecord.{record-fits}
+use Rattle.layout_matrix.proofs.HeadLaws.{record-written}
 use Rattle.generator.proofs.Answer.{generated-length, size-refused, short-refused, generate-accepted}
-use Rattle.generator.proofs.WriteLaws.{record-written}
+use Rattle.generator.specs.Generator.{generatedWords, generatedRecord}
+use Rattle.generator.proofs.States.{length-generated}
 use Rattle.generator.proofs.generate.Statement.{statement}
 use Rattle.generator.proofs.generate.Tie as tie
 
@@ -71,6 +73,7 @@ same-length : tie.Need-same-length
 same-length c = search needs
 
 returns-3 : tie.Need-returns-3
+unfolding generatedRecord
 returns-3 c =
     let w = c .before .before in
     let h = w .before .before .before .before in
@@ -79,9 +82,10 @@ returns-3 c =
     let e = fits .before .before in
     let s = e .before .before .before in
     let room : matrixLength (m e) (n e) ≤ length (s .args .buffer .now) = omega (arith, size, fits .if2 .left) in
+    let words = generatedWords (s .args .seed) (m e * n e) in
     let both = generate-accepted (m e) (n e) (s .args .seed) (s .args .buffer .now) (inside e) room in (
       ap (λ (x : ℕ). record { refusal = 0; place = 0; written = x }) (size ∙ sym (generated-length (m e) (n e) (s .args .seed))) ∙ both .0,
-      w .write-coefficients .ensures ∙ record-written (m e) (n e) (s .args .seed) (s .args .buffer .now) _ room (h .write-matrix-head .ensures) ∙ both .1,
+      w .write-coefficients .ensures ∙ record-written (m e) (n e) words (s .args .buffer .now) _ (length-generated (s .args .seed) (m e * n e)) room (h .write-matrix-head .ensures) ∙ both .1,
     )
 
 pub generate-spec : {M : Type 1} → statement M

@@ -1,0 +1,255 @@
+-- A matrix record is what its matrix says, two's complement reads back, and the record of an accepted text is a matrix record that has the
+-- text's entries, entry k in row k mod m of column k div m.
+-- Assumes nothing.
+use Prim.Native.Nat.{ℕ, zero, suc, _+_, _*_, _-_, _/_, _%_, _≤_, _<_}
+use mathlib.Core.Path.{_≡_, refl, sym, ap, ap₂, _∙_, subst}
+use mathlib.Core.Bool.{Bool, true, false, cond}
+use mathlib.Core.Logic.{_↔_, ⊎-elim}
+use mathlib.Core.List.{List, [], _∷_}
+use native.Mathlib.Decide.{decLt}
+use native.Mathlib.Nat.{mul-comm, mul-le-mul, le-refl, mod-lt, mod-eq-of-lt, div-eq-of-lt, div-lt-iff-lt-mul, div-add-mod', mul-add-mod-self-right, mul-add-div-right, eq-zero-or-pos}
+use native.Mathlib.Omega.{arith}
+use lib.Dec.{ltb}
+use lib.IntN.{ℤ, pos, negsuc, _-ℤ_}
+use lib.ListN.{length, getD, List·getD-eq-default}
+use lib.Seq.{ext-getD}
+use lib.Signed.{_≤ℤ_}
+use borrow.Author.Tests.{ltb-true, ltb-false, lt-ltb, le-ltb}
+use Rattle.integers.proofs.Expression.{nat, minus, _⊝_, equal, equal-parts, at-most-parts}
+use Rattle.limits.specs.Size.{SizeLimits}
+use Rattle.layout_rules.specs.Bytes.{word}
+use Rattle.layout_rules.specs.Matrix.{rows, columns, matrix, matrixLength, IsMatrixRecord, signedWord, coefficientPlace, coefficientAt}
+use Rattle.layout_rules.specs.Tests.{Test, tested, AllPass, firstTests}
+use Rattle.layout_rules.proofs.FirstRecords.{length-first, getD-first}
+use Rattle.layout_rules.proofs.LittleEndian.{AreBytes, word-below}
+use Rattle.layout_rules.proofs.MatrixRecord.{matrix-record-length, matrix-record-bytes, matrix-coefficient}
+use Rattle.layout_rules.proofs.MatrixRows.{matrix-length, matrix-row-length, matrix-at}
+use Rattle.layout_rules.proofs.TestLaws.{all-append, all-split, first-all, all-first}
+use Rattle.market_rules.specs.Lines.{line}
+use Rattle.market_rules.specs.Forms.{firstLine}
+use Rattle.market_rules.specs.Market.{sizeIndex, fileRows, fileColumns, entryCount, entryLines, entryPlace, entry, twosComplement, entryNumber, coefficientWords, marketRecord}
+use Rattle.market_rules.specs.Tests.{SizeLine, EntryLine, entryTests, marketTests}
+
+-- ---- two's complement
+
+signed-same : (x y : ℕ) → x < 65536 → y < 65536 → signedWord x ≡ signedWord y → x ≡ y
+unfolding signedWord
+signed-same x y h k = go (ltb x 32768) (ltb y 32768) refl refl
+  where
+    go : (t u : Bool) → ltb x 32768 ≡ t → ltb y 32768 ≡ u → cond t (pos x) (pos x -ℤ pos 65536) ≡ cond u (pos y) (pos y -ℤ pos 65536) → x ≡ y
+    go true true p q e = omega (arith, equal-parts (nat x) (nat y) e)
+    go true false p q e = omega (arith, ltb-true x 32768 p, ltb-false y 32768 q, equal-parts (nat x) (nat y ⊝ nat 65536) e)
+    go false true p q e = omega (arith, ltb-false x 32768 p, ltb-true y 32768 q, equal-parts (nat x ⊝ nat 65536) (nat y) e)
+    go false false p q e = omega (arith, equal-parts (nat x ⊝ nat 65536) (nat y ⊝ nat 65536) e)
+
+pub signed-complement : (z : ℤ) → negsuc 32767 ≤ℤ z → z ≤ℤ pos 32767 → signedWord (twosComplement z) ≡ z
+unfolding signedWord
+signed-complement (pos x) least most = rw (lt-ltb x 32768 (omega (arith, at-most-parts (nat x) (nat 32767) most)))
+signed-complement (negsuc x) least most =
+    let few = at-most-parts (minus (nat 32768)) (minus (nat (suc x))) least in
+    rw (le-ltb (65535 - x) 32768 (omega arith)) (equal (nat (65535 - x) ⊝ nat 65536) (minus (nat (suc x))) (omega arith))
+
+pub complement-below : (z : ℤ) → z ≤ℤ pos 32767 → twosComplement z < 65536
+complement-below (pos x) most = omega (arith, at-most-parts (nat x) (nat 32767) most)
+complement-below (negsuc x) most = omega arith
+
+-- ---- a record is what its matrix says, and its matrix what its entries column by column say
+
+number-parts : (n i j : ℕ) → j < n → ((i * n + j) % n ≡ j) × ((i * n + j) / n ≡ i)
+number-parts n i j h = (mul-add-mod-self-right i n j ∙ mod-eq-of-lt h, mul-add-div-right (omega arith) i j ∙ omega (arith, div-eq-of-lt h))
+
+-- number k of m rows of n, one after another
+pub parts-within : (m n k : ℕ) → 1 ≤ n → k < m * n → (k / n < m) × (k % n < n)
+parts-within m n k some h = (div-lt-iff-lt-mul some .1 h, mod-lt k some)
+
+-- row k mod m of column k div m
+abbrev pub entryOf : List ℕ → ℕ → ℤ
+entryOf bytes k = getD (getD (matrix bytes) (k % rows bytes) []) (k / rows bytes) (pos 0)
+
+entry-at : (b : List ℕ) (i j : ℕ) → i < rows b → entryOf b (j * rows b + i) ≡ getD (getD (matrix b) i []) j (pos 0)
+entry-at b i j h =
+    let parts = number-parts (rows b) j i h in
+    ap₂ (λ (x y : ℕ). getD (getD (matrix b) x []) y (pos 0)) (parts .0) (parts .1)
+
+pub entries-determine : (b c : List ℕ) → rows b ≡ rows c → columns b ≡ columns c → ((k : ℕ) → k < rows b * columns b → entryOf b k ≡ entryOf c k)
+    → matrix b ≡ matrix c
+entries-determine b c same-rows same-columns each =
+    ext-getD [] (matrix b) (matrix c) (matrix-length b ∙ same-rows ∙ sym (matrix-length c)) (λ i h. same-row i (omega (arith, matrix-length b)))
+  where
+    same-at : (i j : ℕ) → i < rows b → j < columns b → getD (getD (matrix b) i []) j (pos 0) ≡ getD (getD (matrix c) i []) j (pos 0)
+    same-at i j h k =
+        let up-to : suc j * rows b ≤ columns b * rows b = mul-le-mul k (le-refl (rows b)) in
+        sym (entry-at b i j h) ∙ each (j * rows b + i) (omega (arith, mul-comm (rows b) (columns b)))
+        ∙ ap (λ (m : ℕ). entryOf c (j * m + i)) same-rows
+        ∙ entry-at c i j (omega arith)
+
+    same-row : (i : ℕ) → i < rows b → getD (matrix b) i [] ≡ getD (matrix c) i []
+    same-row i h =
+        ext-getD (pos 0) (getD (matrix b) i []) (getD (matrix c) i [])
+        (matrix-row-length b i h ∙ same-columns ∙ sym (matrix-row-length c i (omega arith)))
+        (λ j l. same-at i j h (omega (arith, matrix-row-length b i h)))
+
+module _ (b c : List ℕ) (bytes : AreBytes b) (others : AreBytes c) where
+  -- both bytes at a place, from their number
+  same-bytes : (place : ℕ) → word b place ≡ word c place → (getD b place 0 ≡ getD c place 0) × (getD b (place + 1) 0 ≡ getD c (place + 1) 0)
+  same-bytes place e = omega (arith, bytes place, others place)
+
+  module _ (r : IsMatrixRecord b) (s : IsMatrixRecord c) (e : matrix b ≡ matrix c) where
+    same-rows : rows b ≡ rows c
+    same-rows = sym (matrix-length b) ∙ ap length e ∙ matrix-length c
+
+    same-columns : columns b ≡ columns c
+    same-columns =
+        sym (matrix-row-length b 0 (r .limits .rows-least)) ∙ ap (λ (m : List (List ℤ)). length (getD m 0 [])) e ∙ matrix-row-length c 0 (s .limits .rows-least)
+
+    same-length : length b ≡ length c
+    same-length = r .size ∙ ap₂ matrixLength same-rows same-columns ∙ sym (s .size)
+
+    same-count : word b 0 ≡ word c 0
+    same-count = r .counted ∙ same-length ∙ sym (s .counted)
+
+    same-kind : word b 2 ≡ word c 2
+    same-kind = r .kind ∙ sym (s .kind)
+
+    same-coefficient : (k : ℕ) → k < rows b * columns b → coefficientAt b k ≡ coefficientAt c k
+    same-coefficient k h =
+        let n = columns b in
+        let within = parts-within (rows b) n k (r .limits .columns-least) h in
+        ap (coefficientAt b) (sym (div-add-mod' k n))
+        ∙ sym (matrix-at b (k / n) (k % n) (within .0) (within .1))
+        ∙ ap (λ (m : List (List ℤ)). getD (getD m (k / n) []) (k % n) (pos 0)) e
+        ∙ matrix-at c (k / n) (k % n) (omega (arith, same-rows)) (omega (arith, same-columns))
+        ∙ ap (λ (m : ℕ). coefficientAt c (k / n * m + k % n)) (sym same-columns)
+        ∙ ap (coefficientAt c) (div-add-mod' k n)
+
+    same-word : (k : ℕ) → k < rows b * columns b → word b (coefficientPlace k) ≡ word c (coefficientPlace k)
+    unfolding coefficientAt
+    same-word k h =
+        signed-same (word b (coefficientPlace k)) (word c (coefficientPlace k)) (word-below b bytes (coefficientPlace k)) (word-below c others (coefficientPlace k))
+        (same-coefficient k h)
+
+    same-byte : (i : ℕ) → i < length b → getD b i 0 ≡ getD c i 0
+    same-byte zero h = same-bytes 0 same-count .0
+    same-byte (suc zero) h = same-bytes 0 same-count .1
+    same-byte (suc (suc zero)) h = same-bytes 2 same-kind .0
+    same-byte (suc (suc (suc zero))) h = same-bytes 2 same-kind .1
+    same-byte (suc (suc (suc (suc zero)))) h = same-rows
+    same-byte (suc (suc (suc (suc (suc zero))))) h = same-columns
+    same-byte (suc (suc (suc (suc (suc (suc i)))))) h =
+        let both = same-bytes (coefficientPlace (i / 2)) (same-word (i / 2) (omega (arith, r .size))) in
+        let at : ℕ → Type 0 = λ k. getD b k 0 ≡ getD c k 0 in
+        ⊎-elim (λ even. subst at (omega arith) (both .0)) (λ odd. subst at (omega arith) (both .1)) (eq-zero-or-pos (i % 2))
+
+    pub matrix-determines : b ≡ c
+    matrix-determines = ext-getD 0 b c same-length same-byte
+
+-- ---- what an accepted text is, whatever the buffer
+
+pub record AcceptedText (text : List ℕ) : Type 0 where
+  pub first-line : line text 0 ≡ firstLine
+  pub its-size : SizeLine (line text (sizeIndex text)) (fileRows text) (fileColumns text)
+  pub limits : SizeLimits (fileRows text) (fileColumns text)
+  pub each-entry : (k : ℕ) → k < entryCount text → EntryLine (getD (entryLines text) k []) (entry text k)
+  pub all-entries : length (entryLines text) ≡ entryCount text
+
+pub tests-passed : (text : List ℕ) (room : ℕ) → AllPass (marketTests text room) ↔ (AcceptedText text × (length (marketRecord text) ≤ room))
+unfolding marketTests
+tests-passed text room = (there, back)
+  where
+    last : List Test
+    last = tested 18 (entryPlace text (entryCount text)) (length (entryLines text) ≡ entryCount text) ∷ tested 6 0 (length (marketRecord text) ≤ room) ∷ []
+
+    there : AllPass (marketTests text room) → AcceptedText text × (length (marketRecord text) ≤ room)
+    there a =
+        let both = all-split (firstTests (entryTests text) (entryCount text)) last (a .1 .1 .1) in (
+          record {
+            first-line = a .0;
+            its-size = a .1 .0;
+            limits = a .1 .1 .0;
+            each-entry = λ k h. all-first (entryTests text) (entryCount text) (both .0) k h .0 (omega (arith, both .1 .0));
+            all-entries = both .1 .0;
+          },
+          both .1 .1 .0,
+        )
+
+    back : AcceptedText text × (length (marketRecord text) ≤ room) → AllPass (marketTests text room)
+    back a =
+        let entries = first-all (entryTests text) (entryCount text) (λ k h. (λ there. a .0 .each-entry k h, tt)) in
+        (a .0 .first-line, (a .0 .its-size, (a .0 .limits, all-append (firstTests (entryTests text) (entryCount text)) last entries (a .0 .all-entries, (a .1, tt)))))
+
+-- ---- the record of an accepted text: it goes row by row, the file column by column
+
+-- each coefficient's entry is one of m times n
+
+pub within-number : (m n k : ℕ) → 1 ≤ n → k < m * n → entryNumber m n k < m * n
+within-number m n k some h =
+    let within = parts-within m n k some h in
+    let up-to : suc (k % n) * m ≤ n * m = mul-le-mul (within .1) (le-refl m) in
+    omega (arith, mul-comm m n)
+
+-- the file's number of row i of column j
+number-of : (m n i j : ℕ) → j < n → entryNumber m n (i * n + j) ≡ j * m + i
+number-of m n i j h = let parts = number-parts n i j h in ap₂ (λ (x y : ℕ). x * m + y) (parts .0) (parts .1)
+
+module _ (text : List ℕ) where
+  abbrev m : ℕ
+  m = fileRows text
+
+  abbrev n : ℕ
+  n = fileColumns text
+
+  -- the two bytes of a coefficient of a number, as one number
+  abbrev coefficientWord : ℕ → ℕ
+  coefficientWord k = twosComplement (entry text (entryNumber m n k))
+
+  pub market-rows : rows (marketRecord text) ≡ m
+  unfolding marketRecord
+  market-rows = refl
+
+  pub market-columns : columns (marketRecord text) ≡ n
+  unfolding marketRecord
+  market-columns = refl
+
+  all-words : length (coefficientWords text) ≡ m * n
+  all-words = length-first coefficientWord (entryCount text)
+
+  word-at : (k : ℕ) → k < m * n → getD (coefficientWords text) k 0 ≡ coefficientWord k
+  word-at k h = getD-first coefficientWord (entryCount text) k 0 h
+
+  pub market-length : length (marketRecord text) ≡ matrixLength m n
+  unfolding marketRecord
+  market-length = matrix-record-length m n (coefficientWords text) all-words
+
+  module _ (accepted : AcceptedText text) where
+    words-below : (k : ℕ) → getD (coefficientWords text) k 0 < 65536
+    words-below k = go (decLt k (m * n))
+      where
+        go : Dec (k < m * n) → getD (coefficientWords text) k 0 < 65536
+        go (yes h) =
+            let its = accepted .each-entry (entryNumber m n k) (within-number m n k (accepted .limits .columns-least) h) in
+            rw (word-at k h) (complement-below (entry text (entryNumber m n k)) (its .most))
+        go (no h) = rw (List·getD-eq-default (coefficientWords text) 0 {n = k} (omega (arith, all-words))) (omega arith)
+
+    pub market-bytes : AreBytes (marketRecord text)
+    unfolding marketRecord
+    market-bytes = matrix-record-bytes m n (coefficientWords text) all-words (accepted .limits) words-below
+
+    pub market-record : IsMatrixRecord (marketRecord text)
+    unfolding marketRecord
+    market-record = record { counted = omega arith; kind = refl; limits = accepted .limits; size = market-length }
+
+    -- entry k of the file is row k mod m of column k div m
+    pub market-entry : (k : ℕ) → k < m * n → getD (getD (matrix (marketRecord text)) (k % m) []) (k / m) (pos 0) ≡ entry text k
+    unfolding marketRecord
+    market-entry k h =
+        let i = k % m in
+        let j = k / m in
+        let within = parts-within n m k (accepted .limits .rows-least) (omega (arith, mul-comm m n)) in
+        let up-to : suc i * n ≤ m * n = mul-le-mul (within .1) (le-refl n) in
+        let inside : i * n + j < m * n = omega arith in
+        let its = accepted .each-entry k h in
+        matrix-at (marketRecord text) i j (within .1) (within .0)
+        ∙ matrix-coefficient m n (coefficientWords text) all-words (i * n + j) inside
+        ∙ ap signedWord (word-at (i * n + j) inside)
+        ∙ ap (λ (k : ℕ). signedWord (twosComplement (entry text k))) (number-of m n i j (within .0) ∙ div-add-mod' k m)
+        ∙ signed-complement (entry text k) (its .least) (its .most)
