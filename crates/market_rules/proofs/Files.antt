@@ -2,24 +2,29 @@
 -- what is written is a matrix within the limits.
 -- Assumes nothing.
 use Prim.Native.Nat.{ℕ, suc, _+_, _*_, _/_, _%_, _≤_, _<_}
-use mathlib.Core.Path.{_≡_, sym, ap, ap₂, _∙_, subst}
+use mathlib.Core.Path.{_≡_, refl, sym, ap, ap₂, _∙_, subst}
+use mathlib.Core.Bool.{Bool, true, false}
 use mathlib.Core.Logic.{_↔_, inr}
 use mathlib.Core.List.{List, [], _∷_, _++_}
 use native.Mathlib.Decide.{decLt}
 use native.Mathlib.Nat.{le-refl, mul-comm}
 use native.Mathlib.Omega.{arith}
+use lib.Dec.{ltb, eqb}
 use lib.IntN.{ℤ, pos, negsuc}
 use lib.ListN.{length, getD, take, drop, List·getD-eq-default, length-take, length-drop}
 use lib.Seq.{split-at, getD-append-seam, drop-append-add, getD-take, getD-drop, take-append-seam}
 use lib.Signed.{_≤ℤ_}
+use borrow.Author.Tests.{le-ltb}
+use Rattle.limits.specs.Size.{SizeLimits, sizeOutside}
+use Rattle.limits.proofs.Size.{size-within}
 use Rattle.layout_rules.specs.Matrix.{rows, columns, longestRecord}
 use Rattle.layout_rules.proofs.MatrixRecord.{record-fits}
 use Rattle.layout_rules.proofs.MatrixRows.{matrix-at, coefficient-range}
 use Rattle.bank_rules.specs.Claim.{MatrixWithinLimits}
 use Rattle.market_rules.specs.declared.MarketAnswer.{MarketAnswer}
 use Rattle.market_rules.specs.Lines.{lines, line}
-use Rattle.market_rules.specs.Forms.{firstLine, isComment, sizeRows, sizeColumns, entryValue}
-use Rattle.market_rules.specs.Market.{comments, sizeIndex, fileRows, fileColumns, entryCount, entryLines, entry, marketRecord, marketAccepted, marketAnswer, marketBuffer}
+use Rattle.market_rules.specs.Forms.{same, firstLine, isComment, isSize, sizeRows, sizeColumns, entryValue}
+use Rattle.market_rules.specs.Market.{comments, sizeIndex, sizePlace, fileRows, fileColumns, entryCount, entryLines, entryPlace, entry, entries, marketRecord, marketRefused, marketAccepted, entriesAnswer, marketAnswer, marketBuffer}
 use Rattle.market_rules.specs.Tests.{SizeLine, EntryLine}
 use Rattle.market_rules.specs.File.{Comment, FileOf}
 use Rattle.market_rules.proofs.LineLaws.{leading-within, leading-passes}
@@ -192,3 +197,47 @@ module _ (text buffer : List ℕ) (accepts : marketAnswer text (length buffer) �
   market-within =
       let accepted = tests-passed text (length buffer) .0 (market-passes text (length buffer) .0 accepts) .0 in
       rw market-written (record { are-bytes = market-bytes text accepted; within = inr (market-record text accepted) })
+
+-- ---- "134 bytes always suffice."
+
+module _ (text : List ℕ) (room : ℕ) (enough : longestRecord ≤ room) where
+  -- the answer by whether the record is too long
+  abbrev by-room : Bool → MarketAnswer
+  by-room short =
+      let due = take (entryCount text) (entryLines text) in
+      elim (ltb (entries due) (length due)) [
+        | true ↦ marketRefused 19 (entryPlace text (entries due))
+        | false ↦
+            elim (eqb (length (entryLines text)) (entryCount text)) [
+              | false ↦ marketRefused 18 (entryPlace text (entryCount text))
+              | true ↦ elim short [ true ↦ marketRefused 6 0 | false ↦ marketAccepted text ]
+            ]
+      ]
+
+  entries-room : SizeLimits (fileRows text) (fileColumns text) → entriesAnswer text room ≡ entriesAnswer text longestRecord
+  unfolding entriesAnswer
+  entries-room limits =
+      let size = length (marketRecord text) in
+      let fits : size ≤ longestRecord = omega (arith, market-length text, record-fits (fileRows text) (fileColumns text) limits) in
+      ap by-room (le-ltb room size (omega (arith, fits)) ∙ sym (le-ltb longestRecord size fits))
+
+  -- the answer by whether m or n is outside the limits, and what follows where they are not
+  abbrev by-size : Bool → MarketAnswer → MarketAnswer
+  by-size outside later =
+      elim (same (line text 0) firstLine) [
+        | false ↦ marketRefused 17 0
+        | true ↦
+            elim (isSize (line text (sizeIndex text))) [
+              | false ↦ marketRefused 17 (sizePlace text)
+              | true ↦ elim outside [ true ↦ marketRefused 4 (sizePlace text) | false ↦ later ]
+            ]
+      ]
+
+  -- more room changes no answer
+  pub market-room : marketAnswer text room ≡ marketAnswer text longestRecord
+  unfolding marketAnswer
+  market-room = go (sizeOutside (fileRows text) (fileColumns text)) refl
+    where
+      go : (t : Bool) → sizeOutside (fileRows text) (fileColumns text) ≡ t → by-size t (entriesAnswer text room) ≡ by-size t (entriesAnswer text longestRecord)
+      go true e = refl
+      go false e = ap (by-size false) (entries-room (size-within (fileRows text) (fileColumns text) e))

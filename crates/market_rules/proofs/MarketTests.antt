@@ -3,7 +3,7 @@
 use Prim.Native.Nat.{ℕ, zero, suc, _+_, _-_, _≤_, _<_}
 use mathlib.Core.Path.{_≡_, refl, sym, ap, _∙_}
 use mathlib.Core.Bool.{Bool, true, false, true≢false}
-use mathlib.Core.Logic.{_↔_, inl, inr}
+use mathlib.Core.Logic.{_↔_, inl, inr, ⊎-elim}
 use mathlib.Core.List.{List, [], _∷_, _++_}
 use native.Mathlib.Omega.{arith}
 use lib.Dec.{ltb, eqb}
@@ -136,3 +136,8 @@ module _ (text : List ℕ) (room : ℕ) where
   -- an accepting answer says that all pass
   pub market-passes : (marketAnswer text room ≡ accepted) ↔ AllPass (marketTests text room)
   market-passes = passed-all (marketTests text room) (marketAnswer text room) accepted marketRefused market-decided other-number
+
+  -- refusal 0 says that it accepts
+  pub market-accepts : marketAnswer text room .refusal ≡ 0 → marketAnswer text room ≡ accepted
+  market-accepts e =
+      ⊎-elim (λ a. a .0) (λ d. absurd (omega (arith, d .2, ap (λ (a : MarketAnswer). a .refusal) (d .3), e))) market-decided
