@@ -11,7 +11,7 @@ use Rattle.text.proofs.Wrote.{wrote-as}
 use Rattle.market_rules.specs.declared.MarketAnswer.{MarketAnswer}
 use Rattle.market_rules.specs.Market.{marketRecord, marketAnswer, marketBuffer}
 use Rattle.market_rules.proofs.MarketTests.{market-accepts}
-use Rattle.market_rules.proofs.Files.{market-room}
+use Rattle.market_rules.proofs.Files.{market-filled, market-kept, market-room}
 use Rattle.market_output.specs.MarketOutput.{marketOutput}
 
 module _ (file : List ℕ) where
@@ -33,7 +33,6 @@ module _ (file : List ℕ) where
 
     -- the line of the refusal is written into a buffer that was left as it was
     pub line-refused : (answer .refusal ≡ 0 → ⊥) → (refusedLine (answer .refusal) (answer .place) ≡ marketOutput file) × (after ≡ old)
-    unfolding marketBuffer
     line-refused no-zero = go (answer .refusal) refl
       where
         go : (r : ℕ) → answer .refusal ≡ r → (refusedLine (answer .refusal) (answer .place) ≡ marketOutput file) × (after ≡ old)
@@ -44,17 +43,16 @@ module _ (file : List ℕ) where
               ap (λ (a : MarketAnswer). refusedLine (a .refusal) (a .place)) same-answer
                   ∙ ap (λ (k : ℕ). refusedLine k (answered .place)) known
                   ∙ refused-output r known,
-              left ∙ rw (there, marketBuffer),
+              left ∙ market-kept file old r there,
             )
 
     pub output-written : answer .refusal ≡ 0 → Wrote old after (answer .written) (marketOutput file)
-    unfolding marketBuffer
     output-written is-zero =
         let there : marketAnswer file (length old) .refusal ≡ 0 = ap (λ (a : MarketAnswer). a .refusal) (sym is) ∙ is-zero in
         let known : answered .refusal ≡ 0 = ap (λ (a : MarketAnswer). a .refusal) (sym same-answer) ∙ is-zero in
         wrote-as (accepted-output known) (record {
           counted = ap (λ (a : MarketAnswer). a .written) (is ∙ market-accepts file (length old) there);
-          text = left ∙ rw (there, marketBuffer);
+          text = left ∙ market-filled file old there;
         })
 
 -- the third byte tells a record, which has kind 1, from a refusal, which begins with `ref`

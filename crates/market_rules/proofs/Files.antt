@@ -183,14 +183,20 @@ file-of text bytes = (
 
 -- ---- what is written where a text is accepted
 
-module _ (text buffer : List ℕ) (accepts : marketAnswer text (length buffer) ≡ marketAccepted text) where
-  accepted-buffer : marketBuffer text buffer ≡ marketRecord text ++ drop (length (marketRecord text)) buffer
+-- the record followed by the old bytes, or the old bytes
+module _ (text buffer : List ℕ) where
+  pub market-filled : marketAnswer text (length buffer) .refusal ≡ 0 → marketBuffer text buffer ≡ marketRecord text ++ drop (length (marketRecord text)) buffer
   unfolding marketBuffer
-  accepted-buffer = rw (ap (λ (answer : MarketAnswer). answer .refusal) accepts, marketBuffer)
+  market-filled e = rw (e, marketBuffer)
 
+  pub market-kept : (r : ℕ) → marketAnswer text (length buffer) .refusal ≡ suc r → marketBuffer text buffer ≡ buffer
+  unfolding marketBuffer
+  market-kept r e = rw (e, marketBuffer)
+
+module _ (text buffer : List ℕ) (accepts : marketAnswer text (length buffer) ≡ marketAccepted text) where
   pub market-written : take (marketAnswer text (length buffer) .written) (marketBuffer text buffer) ≡ marketRecord text
   market-written =
-      ap₂ (λ (answer : MarketAnswer) (l : List ℕ). take (answer .written) l) accepts accepted-buffer
+      ap₂ (λ (answer : MarketAnswer) (l : List ℕ). take (answer .written) l) accepts (market-filled text buffer (ap (λ (answer : MarketAnswer). answer .refusal) accepts))
       ∙ take-append-seam (marketRecord text) (drop (length (marketRecord text)) buffer)
 
   pub market-within : MatrixWithinLimits (take (marketAnswer text (length buffer) .written) (marketBuffer text buffer))

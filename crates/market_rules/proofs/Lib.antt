@@ -5,3 +5,4 @@ pub mod Spelling
 pub mod FileLines
 pub mod RecordOf
 pub mod Files
+pub mod Example
