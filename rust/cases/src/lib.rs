@@ -1,12 +1,14 @@
 //! Cases from seeds, for the tests and the benchmark. It rests on document 01's layout alone and on no implementation.
 
 mod damage;
+mod market;
 mod matrices;
 mod netlists;
 mod random;
 mod runs;
 
 pub use damage::{damage, damage_matrix};
+pub use market::{damaged_market_file, market_file, plain_market_file};
 pub use matrices::{any_bank, any_matrix, bank, filled, Matrix};
 pub use netlists::{any_netlist, plain_netlist};
 pub use random::Random;

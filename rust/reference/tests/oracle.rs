@@ -2,24 +2,28 @@
 //!
 //!     BANK=path/to/bank.py cargo test --release -p reference --test oracle -- --ignored
 //!
-//! The program prints its answers as text; each call is one process, so the counts are small.
+//! The program prints its answers as text; each call is one process, so the counts are small. Only Matrix Market files are read in
+//! one process, which calls the program's function for them, and are many.
 
-use std::io::Write;
+use std::io::{BufRead, BufReader, Write};
 use std::path::PathBuf;
-use std::process::{Command, Output, Stdio};
+use std::process::{Child, ChildStdin, ChildStdout, Command, Output, Stdio};
 use std::{env, fs, thread};
 
-use cases::{any_bank, any_netlist, damage, damage_matrix, each, plain_netlist};
-use cases::{Matrix, Met, Random};
+use cases::{any_bank, any_matrix, any_netlist, damage, damage_matrix, damaged_market_file};
+use cases::{each, market_file, plain_netlist, Matrix, Met, Random};
 use reference::Refusal;
 
 /// How many of the later requests are in force: the program's first word.
-const REQUESTS: &str = "6";
+const REQUESTS: &str = "7";
+
+fn program() -> String {
+    env::var("BANK").expect("BANK is the path of bank.py")
+}
 
 fn bank(words: &[&str], input: &[u8]) -> Output {
-    let program = env::var("BANK").expect("BANK is the path of bank.py");
     let mut child = Command::new("python3")
-        .arg(program)
+        .arg(program())
         .arg(REQUESTS)
         .args(words)
         .stdin(Stdio::piped())
@@ -141,6 +145,79 @@ fn compare_generate(met: &mut Met, m: u8, n: u8, seed: u32, room: usize) {
             assert_eq!(text(&theirs.stderr), refused(refusal));
         }
     }
+}
+
+/// Calls the program's function for Matrix Market files: a line of the buffer's length and the file's bytes goes in, and one of the
+/// record's bytes or of the refusal comes out, bytes in hexadecimal.
+const MARKET: &str = "
+import sys
+from importlib import util
+spec = util.spec_from_file_location('bank', sys.argv[1])
+bank = util.module_from_spec(spec)
+spec.loader.exec_module(bank)
+for line in sys.stdin:
+    room, text = line.rstrip('\\n').split(' ')
+    try:
+        print(bank.market(bytes.fromhex(text), int(room)).hex(), flush=True)
+    except bank.Refused as refused:
+        print(refused.text(), flush=True)
+";
+
+/// The process in which these files are read.
+struct Market {
+    child: Child,
+    questions: ChildStdin,
+    answers: BufReader<ChildStdout>,
+    met: Met,
+}
+
+impl Market {
+    fn start() -> Self {
+        let mut child = Command::new("python3")
+            .args(["-c", MARKET, &program()])
+            .stdin(Stdio::piped())
+            .stdout(Stdio::piped())
+            .spawn()
+            .unwrap();
+        let questions = child.stdin.take().unwrap();
+        let answers = BufReader::new(child.stdout.take().unwrap());
+        let met = Met::default();
+        Market {
+            child,
+            questions,
+            answers,
+            met,
+        }
+    }
+
+    fn compare(&mut self, file: &[u8], room: usize) {
+        writeln!(self.questions, "{room} {}", hexadecimal(file)).unwrap();
+        let mut theirs = String::new();
+        self.answers.read_line(&mut theirs).unwrap();
+        let mut buffer = vec![0; room];
+        let ours = match reference::read_matrix_market(file, &mut buffer) {
+            Ok(written) => {
+                self.met.count(0);
+                hexadecimal(&buffer[..written])
+            }
+            Err(refusal) => {
+                self.met.count(refusal.number);
+                refused(refusal)
+            }
+        };
+        assert_eq!(theirs.trim_end(), ours, "{}", file.escape_ascii());
+    }
+
+    /// Ends the process, and returns what was met.
+    fn end(mut self) -> Met {
+        drop(self.questions);
+        assert!(self.child.wait().unwrap().success());
+        self.met
+    }
+}
+
+fn hexadecimal(bytes: &[u8]) -> String {
+    bytes.iter().map(|byte| format!("{byte:02x}")).collect()
 }
 
 /// A file of the test that runs in this thread.
@@ -266,4 +343,24 @@ fn oracle_generates_the_same() {
         compare_generate(&mut generated, m, n, seed, room);
     });
     generated.assert_exactly("generate", &[0, 4, 6], 1);
+}
+
+/// 20 files for each case: half of them right, each in a buffer of a length around the record's.
+#[test]
+#[ignore = "needs BANK, the path of a second program"]
+fn oracle_reads_the_same_files() {
+    let mut market = Market::start();
+    each(0, 10 * count(), |random| {
+        let matrix = any_matrix(random, 8, 8);
+        let length = matrix.record().len();
+        for file in [
+            market_file(random, &matrix),
+            damaged_market_file(random, &matrix),
+        ] {
+            let room = random.choose(&[0, length - 1, length, length + 1, 134, 134, 134]);
+            market.compare(&file, room);
+        }
+    });
+    let met = market.end();
+    met.assert_exactly("read_matrix_market", &[0, 4, 6, 17, 18, 19], 100);
 }
