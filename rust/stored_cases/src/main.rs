@@ -25,7 +25,7 @@ use case::Case;
 use matrices::{netlist, three_minus_three, MATRIX_ROOM};
 
 /// The programs by name.
-fn programs() -> [(&'static str, Case); 7] {
+fn programs() -> [(&'static str, Case); 8] {
     [
         ("test_calls", test_calls()),
         ("test_scores", scores::test_scores()),
@@ -33,6 +33,7 @@ fn programs() -> [(&'static str, Case); 7] {
         ("compile_bank", compile_bank()),
         ("check_bank", check_bank()),
         ("generate_bank", generate_bank()),
+        ("matrix_market", matrix_market()),
         ("burn_in", burn_in::burn_in()),
     ]
 }
@@ -88,6 +89,18 @@ fn generate_bank() -> Case {
     assert_eq!(written, Ok(record.len()));
     Case {
         stdin: [&[8, 8][..], &seed.to_le_bytes()].concat(),
+        stdout: record,
+    }
+}
+
+/// The filters that `compile_bank` compiles.
+fn matrix_market() -> Case {
+    let file = include_bytes!("../../../examples/smoothing-and-slope.mtx");
+    let mut record = vec![0; MATRIX_ROOM];
+    let written = reference::read_matrix_market(file, &mut record);
+    record.truncate(written.expect("a right file"));
+    Case {
+        stdin: file.to_vec(),
         stdout: record,
     }
 }
