@@ -66,6 +66,8 @@ static void lend_nothing(void)
     printf("payload of %zu bytes, NULL: %d\n", record.payload_length, record.payload == NULL);
     struct zaatarloft_generated generated = zaatarloft_generate(1, 1, 0, NULL, 0);
     print_refusal("generate into no bytes", generated.refusal, generated.place);
+    struct zaatarloft_matrix_market matrix = zaatarloft_read_matrix_market(NULL, 0, NULL, 0);
+    print_refusal("read_matrix_market of no bytes", matrix.refusal, matrix.place);
 }
 
 int main(int argc, char **argv)

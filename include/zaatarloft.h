@@ -1,5 +1,5 @@
-/* Zaatarloft's calls for C and C++: compile, read, check, run, step and generate, as docs/SPECIFICATION.md has them, which is
- * cited as document 01.
+/* Zaatarloft's calls for C and C++: compile, read, check, run, step, generate and read_matrix_market, as docs/SPECIFICATION.md
+ * has them, which is cited as document 01.
  * The library is target/staticlib/libzaatarloft.a, for x86-64 Linux; `rt staticlib zaatarloft` proves and builds it.
  *
  * Every call returns its answer as a struct: the refusal's number, 0 where it accepts, its place, then the other numbers, which
@@ -41,7 +41,7 @@ static inline const char *zaatarloft_refusal_words(uint8_t refusal)
         return "the matrix's length field differs from the number of bytes lent";
     case 3: /* place 0 */
         return "the matrix's kind is not 1";
-    case 4: /* place 0 */
+    case 4: /* place 0, or the size line's start */
         return "the matrix's m or n outside 1 to 8";
     case 5: /* place 0 */
         return "the matrix's length is not 6 + 2 times m times n";
@@ -69,6 +69,12 @@ static inline const char *zaatarloft_refusal_words(uint8_t refusal)
         return "samples are not n";
     case 16: /* place 0 */
         return "outputs lent are not m";
+    case 17: /* line's start, or the file's end */
+        return "the Matrix Market file's first line or size line is missing or has another form";
+    case 18: /* first surplus line's start, or the file's end */
+        return "the Matrix Market file's entries are too few or too many";
+    case 19: /* line's start */
+        return "one of the first m times n entry lines of the Matrix Market file is not an integer from -32,768 to 32,767";
     default:
         return NULL;
     }
@@ -96,6 +102,9 @@ uint8_t zaatarloft_raw_step(const uint8_t *bytes, size_t bytes_length, size_t at
 
 uint8_t zaatarloft_raw_generate(uint8_t m, uint8_t n, uint32_t seed, uint8_t *buffer, size_t buffer_length, size_t *place,
                                 size_t *written);
+
+uint8_t zaatarloft_raw_read_matrix_market(const uint8_t *text, size_t text_length, uint8_t *buffer, size_t buffer_length,
+                                          size_t *place, size_t *written);
 
 /* ---- The calls
  *
@@ -226,6 +235,26 @@ static inline struct zaatarloft_generated zaatarloft_generate(uint8_t m, uint8_t
     struct zaatarloft_generated answer;
     answer.refusal = zaatarloft_raw_generate(m, n, seed, buffer_length == 0 ? &none : buffer, buffer_length, &answer.place,
                                              &answer.written);
+    return answer;
+}
+
+struct zaatarloft_matrix_market {
+    uint8_t refusal;
+    size_t place;
+    size_t written; /* bytes of the buffer */
+};
+
+/* From the bytes of a Matrix Market file, `matrix array integer general`, to the matrix record of its matrix, in the buffer as
+ * compile leaves a netlist there. Refusals 4, 6, 17 to 19; their places, but that of 6, are those of lines in the file. No bytes
+ * are no file: 17. */
+static inline struct zaatarloft_matrix_market zaatarloft_read_matrix_market(const uint8_t *text, size_t text_length,
+                                                                            uint8_t *buffer, size_t buffer_length)
+{
+    uint8_t none = 0;
+    struct zaatarloft_matrix_market answer;
+    answer.refusal = zaatarloft_raw_read_matrix_market(zaatarloft_lent(text, text_length), text_length,
+                                                       buffer_length == 0 ? &none : buffer, buffer_length, &answer.place,
+                                                       &answer.written);
     return answer;
 }
 

@@ -1,6 +1,6 @@
-//! What is measured: five calls of both sides, on spread random banks; generate on seeds of its own.
+//! What is measured: six calls of both sides, on spread random banks; generate on seeds of its own.
 
-use cases::{bank, Random};
+use cases::{bank, plain_market_file, Random};
 use reference::literal::Elimination;
 
 /// The bytes that suffice for every netlist.
@@ -13,14 +13,16 @@ pub enum Call {
     Check,
     Run,
     Generate,
+    ReadMatrixMarket,
 }
 
-pub const CALLS: [Call; 5] = [
+pub const CALLS: [Call; 6] = [
     Call::Compile,
     Call::Read,
     Call::Check,
     Call::Run,
     Call::Generate,
+    Call::ReadMatrixMarket,
 ];
 
 impl Call {
@@ -31,6 +33,7 @@ impl Call {
             Call::Check => "check",
             Call::Run => "run",
             Call::Generate => "generate",
+            Call::ReadMatrixMarket => "read_matrix_market",
         }
     }
 
@@ -71,6 +74,9 @@ pub struct Input {
     /// Not the bank's matrix: a generated record of its size.
     generated: Vec<u8>,
     seed: u32,
+    /// The bank's matrix as a Matrix Market file, and its record, read from there.
+    file: Vec<u8>,
+    record: Vec<u8>,
     pub operations: usize,
 }
 
@@ -78,12 +84,15 @@ impl Input {
     /// A random bank of m rows, n columns and coefficients of so many bits.
     pub fn of_seed(seed: u64, m: usize, n: usize, bits: u32) -> Self {
         let mut random = Random::new(seed);
-        let matrix = bank(&mut random, m, n, bits).record();
+        let bank = bank(&mut random, m, n, bits);
+        let matrix = bank.record();
         let mut buffer = vec![0; NETLIST_ROOM];
         let compiled = reference::compile(&matrix, &mut buffer).expect("a right record");
         Input {
             generated: matrix.clone(),
             seed: seed as u32,
+            file: plain_market_file(&bank),
+            record: matrix.clone(),
             matrix,
             netlist: buffer[..compiled.written].to_vec(),
             buffer,
@@ -114,6 +123,9 @@ impl Input {
             (Side::Verified, Call::Generate) => {
                 zaatarloft::generate(m, n, self.seed, &mut self.generated).is_ok()
             }
+            (Side::Verified, Call::ReadMatrixMarket) => {
+                zaatarloft::read_matrix_market(&self.file, &mut self.record).is_ok()
+            }
             (Side::Independent, Call::Compile) => {
                 reference::compile(matrix, &mut self.buffer).is_ok()
             }
@@ -122,6 +134,9 @@ impl Input {
             (Side::Independent, Call::Run) => reference::run(netlist, samples, outputs).is_ok(),
             (Side::Independent, Call::Generate) => {
                 reference::generate(m, n, self.seed, &mut self.generated).is_ok()
+            }
+            (Side::Independent, Call::ReadMatrixMarket) => {
+                reference::read_matrix_market(&self.file, &mut self.record).is_ok()
             }
         };
         assert!(accepted);

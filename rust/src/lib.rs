@@ -1,8 +1,8 @@
 //! Zaatarloft's calls for Rust: safe wrappers of the proved library.
 //!
 //! A matrix record goes in as bytes, a netlist of additions, subtractions and shifts comes out as bytes; `generate` makes
-//! matrix records from seeds. The calls are proved; these wrappers are not. Each returns what document 01 says, or the refusal
-//! with its number and place.
+//! matrix records from seeds, and `read_matrix_market` from Matrix Market files. The calls are proved; these wrappers are not.
+//! Each returns what document 01 says, or the refusal with its number and place.
 //!
 //! ```
 //! let matrix = [0x0A, 0, 1, 0, 1, 2, 3, 0, 0xFD, 0xFF]; // row 3, −3
@@ -23,7 +23,7 @@ use std::fmt;
 /// Why a record was declined: document 01's number and place.
 #[derive(Debug, Clone, Copy, PartialEq, Eq)]
 pub struct Refusal {
-    /// From 1 to 16.
+    /// From 1 to 19.
     pub number: u8,
     /// A place in the bytes lent; a row for 14.
     pub place: usize,
@@ -235,6 +235,34 @@ pub fn generate(m: u8, n: u8, seed: u32, buffer: &mut [u8]) -> Result<usize, Ref
             m,
             n,
             seed,
+            buffer.as_mut_ptr(),
+            buffer.len(),
+            &mut place,
+            &mut written,
+        )
+    };
+    accepted(number, place, written)
+}
+
+/// From the bytes of a Matrix Market file, `matrix array integer general`, to the matrix record of its matrix, at the start of
+/// the buffer; returns the bytes written. The bytes behind them are as they were; 134 bytes always suffice. Refusals 4, 6 and
+/// 17 to 19, which leave the buffer as it was.
+///
+/// ```
+/// let file = b"%%MatrixMarket matrix array integer general\n% row 3, -3\n1 2\n3\n-3\n";
+/// let mut buffer = [0; 134];
+/// let written = zaatarloft::read_matrix_market(file, &mut buffer)?;
+/// assert_eq!(buffer[..written], [0x0A, 0, 1, 0, 1, 2, 3, 0, 0xFD, 0xFF]);
+/// # Ok::<(), zaatarloft::Refusal>(())
+/// ```
+pub fn read_matrix_market(text: &[u8], buffer: &mut [u8]) -> Result<usize, Refusal> {
+    let mut place = 0;
+    let mut written = 0;
+    // SAFETY: both slices are valid for their lengths, the buffer for writes, and both references are to distinct numbers.
+    let number = unsafe {
+        raw::zaatarloft_raw_read_matrix_market(
+            text.as_ptr(),
+            text.len(),
             buffer.as_mut_ptr(),
             buffer.len(),
             &mut place,

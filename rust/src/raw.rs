@@ -70,3 +70,13 @@ extern "C" {
         written: *mut usize,
     ) -> u8;
 }
+extern "C" {
+    pub fn zaatarloft_raw_read_matrix_market(
+        text: *const u8,
+        text_length: usize,
+        buffer: *mut u8,
+        buffer_length: usize,
+        place: *mut usize,
+        written: *mut usize,
+    ) -> u8;
+}

@@ -19,6 +19,7 @@ const PROMISES: [(&str, &[&str]); 5] = [
             "netlist_rules/Check",
             "netlist_rules/Run",
             "generator/Generator",
+            "market_rules/Market",
         ],
     ),
     (
@@ -30,6 +31,7 @@ const PROMISES: [(&str, &[&str]); 5] = [
             "sum_rules/Signs",
             "elimination_rules/Negated",
             "generator/States",
+            "market_rules/File",
         ],
     ),
     (
@@ -38,6 +40,7 @@ const PROMISES: [(&str, &[&str]); 5] = [
             "compile_rules/Tests",
             "netlist_rules/Tests",
             "generator/Tests",
+            "market_rules/Tests",
         ],
     ),
     ("kept", &["kept_rules/Kept"]),

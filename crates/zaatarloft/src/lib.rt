@@ -1,5 +1,5 @@
-// Document 01's six calls for hosts in C and Rust, over numbers and slices of numbers alone. Rests on `compile`,
-// `netlist_read`, `netlist_check`, `netlist_run`, `layout_step` and `generator`.
+// Document 01's seven calls for hosts in C and Rust, over numbers and slices of numbers alone. Rests on `compile`,
+// `netlist_read`, `netlist_check`, `netlist_run`, `layout_step`, `generator` and `market`.
 // Each function returns the refusal's number, 0 where it accepts, and writes the other numbers of the answer through the references.
 // The names say raw: include/zaatarloft.h and rust/src/lib.rs have calls over them that give an answer as one struct.
 ghost use mathlib.Core.Path.{_≡_};
@@ -10,6 +10,7 @@ ghost use Rattle.netlist_rules.specs.Check.{checkAnswer};
 ghost use Rattle.netlist_rules.specs.Run.{runAnswer, runOutputs};
 ghost use Rattle.layout_rules.specs.Step.{stepNumbers};
 ghost use Rattle.generator.specs.Generator.{generateAnswer, generateBuffer};
+ghost use Rattle.market_rules.specs.Market.{marketAnswer, marketBuffer};
 
 // Compile: from a matrix record, or no bytes, to the netlist, at the start of the lent buffer.
 #[no_mangle]
@@ -122,4 +123,21 @@ pub extern "C" fn zaatarloft_raw_generate(
     *place = generated.place;
     *written = generated.written;
     generated.refusal
+}
+
+// Read Matrix Market: from a Matrix Market file to the matrix record, at the start of the lent buffer.
+#[no_mangle]
+pub extern "C" fn zaatarloft_raw_read_matrix_market(
+    text: &[u8],
+    buffer: &mut [u8],
+    place: &mut usize,
+    written: &mut usize,
+) -> u8
+    ensures { λ r. ⌜ record { refusal = r; place = now (place .exit); written = now (written .exit) } ≡ marketAnswer (now (text .entry)) (length (now (buffer .entry))) ⌝ }
+    ensures { λ _. ⌜ now (buffer .exit) ≡ marketBuffer (now (text .entry)) (now (buffer .entry)) ⌝ }
+{
+    let converted = market::read_matrix_market(text, buffer);
+    *place = converted.place;
+    *written = converted.written;
+    converted.refusal
 }

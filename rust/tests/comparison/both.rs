@@ -16,6 +16,7 @@ pub struct Both {
     run: Met,
     step: Met,
     generate: Met,
+    market: Met,
 }
 
 /// A refusal's number and place, of either side.
@@ -143,6 +144,25 @@ impl Both {
         answer.ok().map(|_| buffer[..written].to_vec())
     }
 
+    /// Reads a Matrix Market file into a buffer with these old bytes, and returns the matrix record where it was accepted.
+    pub fn read_matrix_market(&mut self, text: &[u8], old: &[u8]) -> Option<Vec<u8>> {
+        let (answer, buffer) = lend(old, 0x5A, |lent| zaatarloft::read_matrix_market(text, lent));
+        let (expected, contents) =
+            lend(old, 0x5A, |lent| reference::read_matrix_market(text, lent));
+        let (answer, expected) = (verified(answer), independent(expected));
+        let (shown, room) = (text.escape_ascii(), old.len());
+        assert_eq!(
+            answer, expected,
+            "read_matrix_market of {shown}, {room} bytes"
+        );
+        assert_eq!(buffer, contents, "buffer after {shown}, {room} bytes");
+        self.market.count(number(&answer));
+
+        let written = answer.unwrap_or(0);
+        assert_eq!(buffer[written..], old[written..]);
+        answer.ok().map(|_| buffer[..written].to_vec())
+    }
+
     pub fn assert_compile(&self, numbers: &[u8], least: u64) {
         self.compile.assert_exactly("compile", numbers, least);
     }
@@ -165,5 +185,10 @@ impl Both {
 
     pub fn assert_generate(&self, numbers: &[u8], least: u64) {
         self.generate.assert_exactly("generate", numbers, least);
+    }
+
+    pub fn assert_market(&self, numbers: &[u8], least: u64) {
+        let call = "read_matrix_market";
+        self.market.assert_exactly(call, numbers, least);
     }
 }

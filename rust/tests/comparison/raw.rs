@@ -1,11 +1,12 @@
 //! The functions under the wrappers, as C calls them: what the wrappers hide. Every number of an answer is written, all are 0
 //! where it is a refusal.
 
-use cases::{any_bank, any_netlist, damage, damage_matrix, each, Met, Random};
+use cases::{any_bank, any_matrix, any_netlist, damage, damage_matrix, damaged_market_file, each};
+use cases::{Met, Random};
 use reference::returned;
 use zaatarloft::raw::{
-    zaatarloft_raw_compile, zaatarloft_raw_generate, zaatarloft_raw_read, zaatarloft_raw_run,
-    zaatarloft_raw_step,
+    zaatarloft_raw_compile, zaatarloft_raw_generate, zaatarloft_raw_read,
+    zaatarloft_raw_read_matrix_market, zaatarloft_raw_run, zaatarloft_raw_step,
 };
 
 /// m and n of a netlist.
@@ -175,4 +176,34 @@ fn numbers_of_generate() {
         assert_eq!(written, expected.unwrap_or(0));
     });
     met.assert_exactly("generate", &[0, 4, 6], 100);
+}
+
+#[test]
+fn numbers_of_read_matrix_market() {
+    let mut met = Met::default();
+    each(24_000_000, 20_000, |random| {
+        let matrix = any_matrix(random, 3, 3);
+        let text = damaged_market_file(random, &matrix);
+        let room = random.between(0, 30);
+        let mut buffer = vec![0; room];
+        let (mut place, mut written) = (77, 77);
+        // SAFETY: both slices are valid for their lengths and distinct, as are the numbers.
+        let number = unsafe {
+            zaatarloft_raw_read_matrix_market(
+                text.as_ptr(),
+                text.len(),
+                buffer.as_mut_ptr(),
+                buffer.len(),
+                &mut place,
+                &mut written,
+            )
+        };
+        met.count(number);
+        let mut contents = vec![0; room];
+        let expected = reference::read_matrix_market(&text, &mut contents);
+        assert_eq!(buffer, contents);
+        assert_eq!((number, place), returned(&expected));
+        assert_eq!(written, expected.unwrap_or(0));
+    });
+    met.assert_exactly("read_matrix_market", &[0, 4, 6, 17, 18, 19], 500);
 }
