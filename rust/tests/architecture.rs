@@ -52,6 +52,7 @@ const PROMISES: [(&str, &[&str]); 5] = [
             "run_text/RunText",
             "check_text/CheckText",
             "generate_output/GenerateOutput",
+            "market_output/MarketOutput",
             "burn_in_text/BurnInText",
         ],
     ),
