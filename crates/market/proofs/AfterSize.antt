@@ -1,9 +1,9 @@
 -- What is answered of the lines behind the size line, from the entries read of them.
 -- Assumes nothing.
-use Prim.Native.Nat.{ℕ, zero, suc, _+_, _*_, _≤_, _<_}
-use mathlib.Core.Path.{_≡_, refl, sym, ap, ap₂, subst, _∙_}
+use Prim.Native.Nat.{ℕ, suc, _+_, _*_, _≤_, _<_}
+use mathlib.Core.Path.{_≡_, sym, ap, ap₂, _∙_}
 use mathlib.Core.Bool.{Bool, true, false}
-use mathlib.Core.List.{List, [], _∷_, _++_}
+use mathlib.Core.List.{List, [], _++_}
 use native.Mathlib.Decide.{decLt}
 use native.Mathlib.Nat.{add-zero}
 use native.Mathlib.Omega.{arith}
@@ -15,7 +15,7 @@ use Rattle.layout_rules.specs.Matrix.{matrixRecord}
 use Rattle.layout_rules.specs.Places.{firstRecords}
 use Rattle.layout_rules.proofs.FirstRecords.{length-first, getD-first, first-is}
 use Rattle.market_rules.specs.declared.MarketAnswer.{MarketAnswer}
-use Rattle.market_rules.specs.Lines.{lines, line, linePlace}
+use Rattle.market_rules.specs.Lines.{lines, linePlace}
 use Rattle.market_rules.specs.Forms.{isEntry, entryValue}
 use Rattle.market_rules.specs.Market.{sizeIndex, fileRows, fileColumns, entryCount, entryLines, entryPlace, entry, entries, twosComplement, entryNumber, coefficientWords, marketRecord, marketRefused, marketAccepted, entriesAnswer}
 use Rattle.market_rules.proofs.LineLaws.{lines-from, place-from, place-there, place-missing, leading-within}
@@ -31,10 +31,10 @@ module _ (text : List ℕ) (start : ℕ) (starts : start ≡ entryPlace text 0) 
   at-entries : start ≡ linePlace text (suc (sizeIndex text))
   at-entries = starts ∙ ap (linePlace text) (add-zero (suc (sizeIndex text)))
 
-  pub lines-rest : lines rest ≡ entryLines text
+  lines-rest : lines rest ≡ entryLines text
   lines-rest = ap (λ (p : ℕ). lines (drop p text)) at-entries ∙ lines-from text (suc (sizeIndex text))
 
-  pub place-rest : (k : ℕ) → entryPlace text k ≡ start + linePlace rest k
+  place-rest : (k : ℕ) → entryPlace text k ≡ start + linePlace rest k
   place-rest k =
       place-from text (suc (sizeIndex text)) k
       ∙ ap (λ (p : ℕ). p + linePlace (drop p text) k) (sym at-entries)
@@ -57,7 +57,10 @@ module _ (text : List ℕ) (start : ℕ) (starts : start ≡ entryPlace text 0) 
     placed = ap (λ (p : ℕ). start + p) (is .placed) ∙ sym (place-rest (read .count))
 
     few : (read .count ≤ entryCount text) × (read .count ≤ length (entryLines text))
-    few = (omega (arith, counted, leading-within isEntry due, length-take (entryCount text) (entryLines text)), omega (arith, counted, leading-within isEntry due, length-take (entryCount text) (entryLines text)))
+    few =
+        let most = leading-within isEntry due in
+        let size = length-take (entryCount text) (entryLines text) in
+        (omega (arith, counted), omega (arith, counted))
 
     -- a line is left, or none
     none-left : length text ≤ place → length (entryLines text) ≤ read .count

@@ -1,22 +1,21 @@
 -- The places of a file's lines as code comes to them, and what is answered and left in the buffer, test by test.
 -- Assumes nothing.
-use Prim.Native.Nat.{ℕ, suc, _+_, _*_, _≤_, _<_, min}
+use Prim.Native.Nat.{ℕ, suc, _+_, _<_, min}
 use mathlib.Core.Path.{_≡_, refl, sym, ap, ap₂, _∙_}
 use mathlib.Core.Bool.{Bool, true, false, _||_}
-use mathlib.Core.List.{List, [], _∷_, _++_, flatten}
-use native.Mathlib.Nat.{add-zero, zero-add}
+use mathlib.Core.List.{List, flatten}
 use native.Mathlib.Omega.{arith}
 use lib.Dec.{ltb}
-use lib.ListN.{length, getD, drop}
+use lib.ListN.{length, drop}
 use borrow.Author.Tests.{ltb-true, ltb-false, lt-ltb, le-ltb}
 use Rattle.limits.specs.Limits.{maxRows, maxColumns}
-use Rattle.limits.specs.Size.{SizeLimits, outside, sizeOutside}
+use Rattle.limits.specs.Size.{outside, sizeOutside}
 use Rattle.limits.proofs.Size.{size-within}
 use Rattle.market_rules.specs.declared.MarketAnswer.{MarketAnswer}
 use Rattle.market_rules.specs.Lines.{lines, line, linePlace}
 use Rattle.market_rules.specs.Forms.{same, firstLine, isSize}
 use Rattle.market_rules.specs.Market.{comments, sizeIndex, sizePlace, fileRows, fileColumns, entryPlace, marketRefused, entriesAnswer, marketAnswer, marketBuffer}
-use Rattle.market_rules.proofs.LineLaws.{lines-from, line-from, place-from, place-next, place-within}
+use Rattle.market_rules.proofs.LineLaws.{lines-from, line-from, place-from, place-next}
 use Rattle.market.specs.Parts.{commentBytes, entriesBuffer}
 
 -- ---- places

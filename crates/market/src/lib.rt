@@ -13,7 +13,7 @@ use market_lines::same_bytes;
 use market_rules::MarketAnswer;
 ghost use mathlib.Core.Path.{_≡_};
 ghost use mathlib.Core.List.{flatMap};
-ghost use Prim.Native.Nat.{_+_, _*_, _≤_, _<_};
+ghost use Prim.Native.Nat.{_+_, _*_, _≤_};
 ghost use lib.ListN.{length, getD, drop};
 ghost use Rattle.limits.specs.Size.{SizeLimits};
 ghost use Rattle.layout_rules.specs.Bytes.{littleEndian};

@@ -3,7 +3,6 @@
 use Prim.Native.Nat.{ℕ}
 use mathlib.Core.Path.{_≡_, refl}
 use mathlib.Core.List.{List, [], _∷_, _++_, flatMap, flatten}
-use lib.ListN.{length}
 use Rattle.layout_rules.specs.Matrix.{longestRecord}
 use Rattle.layout_rules.specs.Places.{firstRecords}
 use Rattle.text.specs.Decimal.{valueBehind}

@@ -2,7 +2,7 @@
 -- in their order, each with the number and the place that are returned where it is the first that fails. Nothing here computes an answer;
 -- read_matrix_market is held to this list.
 -- Assumes nothing.
-use Prim.Native.Nat.{ℕ, suc, _≤_, _<_}
+use Prim.Native.Nat.{ℕ, _≤_, _<_}
 use mathlib.Core.Path.{_≡_}
 use mathlib.Core.Logic.{_⊎_}
 use mathlib.Core.List.{List, [], _∷_, _++_}
@@ -12,7 +12,7 @@ use lib.Signed.{_≤ℤ_}
 use Rattle.limits.specs.Size.{SizeLimits}
 use Rattle.layout_rules.specs.Tests.{Test, tested, firstTests}
 use Rattle.text.specs.Decimal.{digitByte, decimalValue}
-use Rattle.market_rules.specs.Lines.{lineFeed, line, linePlace}
+use Rattle.market_rules.specs.Lines.{lineFeed, line}
 use Rattle.market_rules.specs.Forms.{blank, minus, firstLine}
 use Rattle.market_rules.specs.Market.{sizeIndex, sizePlace, fileRows, fileColumns, entryCount, entryLines, entryPlace, entry, marketRecord}
 
