@@ -245,8 +245,8 @@ struct zaatarloft_matrix_market {
 };
 
 /* From the bytes of a Matrix Market file, `matrix array integer general`, to the matrix record of its matrix, in the buffer as
- * compile leaves a netlist there. Refusals 4, 6, 17 to 19; their places, but that of 6, are those of lines in the file. No bytes
- * are no file: 17. */
+ * compile leaves a netlist there. Refusals 4, 6, 17 to 19; their places, but that of 6, are those of lines in the file, or its
+ * end. No bytes are no file: 17. */
 static inline struct zaatarloft_matrix_market zaatarloft_read_matrix_market(const uint8_t *text, size_t text_length,
                                                                             uint8_t *buffer, size_t buffer_length)
 {

@@ -17,7 +17,7 @@ use Rattle.layout_rules.proofs.FirstRecords.{length-first, getD-first, first-is
 use Rattle.market_rules.specs.declared.MarketAnswer.{MarketAnswer}
 use Rattle.market_rules.specs.Lines.{lines, linePlace}
 use Rattle.market_rules.specs.Forms.{isEntry, entryValue}
-use Rattle.market_rules.specs.Market.{sizeIndex, fileRows, fileColumns, entryCount, entryLines, entryPlace, entry, entries, twosComplement, entryNumber, coefficientWords, marketRecord, marketRefused, marketAccepted, entriesAnswer}
+use Rattle.market_rules.specs.Market.{sizeIndex, fileRows, fileColumns, entryCount, entryLines, entryPlace, entry, leadingEntryCount, twosComplement, entryIndex, coefficientWords, marketRecord, marketRefused, marketAccepted, entriesAnswer}
 use Rattle.market_rules.proofs.LineLaws.{lines-from, place-from, place-there, place-missing, leading-within}
 use Rattle.market_rules.proofs.RecordOf.{within-number}
 use Rattle.market.specs.declared.Entries.{Entries}
@@ -42,7 +42,7 @@ module _ (text : List ℕ) (start : ℕ) (starts : start ≡ entryPlace text 0) 
   module _ (buffer words : List ℕ) (read : Entries) (is : EntriesRead rest words read) (all : length words ≡ entryCount text)
       (within : start ≤ length text) where
     abbrev place : ℕ
-    place = start + read .behind
+    place = start + read .bytes
 
     abbrev Leaves : MarketAnswer → List ℕ → Type 0
     Leaves answer after = (answer ≡ entriesAnswer text (length buffer)) × (after ≡ entriesBuffer text buffer)
@@ -50,8 +50,8 @@ module _ (text : List ℕ) (start : ℕ) (starts : start ≡ entryPlace text 0) 
     abbrev due : List (List ℕ)
     due = take (entryCount text) (entryLines text)
 
-    counted : read .count ≡ entries due
-    counted = is .counted ∙ ap₂ (λ (k : ℕ) (ls : List (List ℕ)). entries (take k ls)) all lines-rest
+    counted : read .count ≡ leadingEntryCount due
+    counted = is .counted ∙ ap₂ (λ (k : ℕ) (ls : List (List ℕ)). leadingEntryCount (take k ls)) all lines-rest
 
     placed : place ≡ entryPlace text (read .count)
     placed = ap (λ (p : ℕ). start + p) (is .placed) ∙ sym (place-rest (read .count))
@@ -85,14 +85,14 @@ module _ (text : List ℕ) (start : ℕ) (starts : start ≡ entryPlace text 0) 
     unfolding entriesBuffer
     refused-with r p e = (sym e, sym (rw (e, entriesBuffer)))
 
-    one-bad : ltb (entries due) (length due) ≡ true → entriesAnswer text (length buffer) ≡ marketRefused 19 (entryPlace text (entries due))
+    one-bad : ltb (leadingEntryCount due) (length due) ≡ true → entriesAnswer text (length buffer) ≡ marketRefused 19 (entryPlace text (leadingEntryCount due))
     unfolding entriesAnswer
     one-bad e = rw (e, entriesAnswer)
 
     pub no-entry : place < length text → read .count < length words → Leaves (marketRefused 19 place) buffer
     no-entry l h =
-        let before : ltb (entries due) (length due) ≡ true = lt-ltb (entries due) (length due) (omega (arith, counted, line-left l, all, length-take (entryCount text) (entryLines text))) in
-        let at : entryPlace text (entries due) ≡ place = ap (entryPlace text) (sym counted) ∙ sym placed in
+        let before : ltb (leadingEntryCount due) (length due) ≡ true = lt-ltb (leadingEntryCount due) (length due) (omega (arith, counted, line-left l, all, length-take (entryCount text) (entryLines text))) in
+        let at : entryPlace text (leadingEntryCount due) ≡ place = ap (entryPlace text) (sym counted) ∙ sym placed in
         refused-with 18 place (one-bad before ∙ ap (marketRefused 19) at)
 
     -- all lines that are due are entries
@@ -102,7 +102,7 @@ module _ (text : List ℕ) (start : ℕ) (starts : start ≡ entryPlace text 0) 
           | true ↦ elim (ltb (length buffer) (length (marketRecord text))) [ true ↦ marketRefused 6 0 | false ↦ marketAccepted text ]
         ]
     unfolding entriesAnswer
-    all-due h c e = rw (le-ltb (entries due) (length due) (omega (arith, counted)), e, entriesAnswer)
+    all-due h c e = rw (le-ltb (leadingEntryCount due) (length due) (omega (arith, counted)), e, entriesAnswer)
 
     pub too-many : place < length text → length words ≤ read .count → Leaves (marketRefused 18 place) buffer
     too-many l h =
@@ -126,17 +126,17 @@ module _ (text : List ℕ) (start : ℕ) (starts : start ≡ entryPlace text 0) 
       whole = omega (arith, all, few .0)
 
       -- the numbers of the coefficients
-      same-words : firstRecords (λ k. getD words (entryNumber m n k) 0) (m * n) ≡ coefficientWords text
+      same-words : firstRecords (λ k. getD words (entryIndex m n k) 0) (m * n) ≡ coefficientWords text
       same-words =
           let count : m * n ≡ entryCount text = ap₂ _*_ rows columns in
-          first-is (λ k. getD words (entryNumber m n k) 0) (m * n) (coefficientWords text)
-          (length-first (λ k. twosComplement (entry text (entryNumber (fileRows text) (fileColumns text) k))) (entryCount text) ∙ sym count)
+          first-is (λ k. getD words (entryIndex m n k) 0) (m * n) (coefficientWords text)
+          (length-first (λ k. twosComplement (entry text (entryIndex (fileRows text) (fileColumns text) k))) (entryCount text) ∙ sym count)
           (λ k d h.
           let there = within-number m n k (limits .columns-least) h in
-          is .told (entryNumber m n k) (omega (arith, there, whole, count))
-          ∙ ap (λ (ls : List (List ℕ)). twosComplement (entryValue (getD ls (entryNumber m n k) []))) lines-rest
-          ∙ ap₂ (λ (x y : ℕ). twosComplement (entry text (entryNumber x y k))) rows columns
-          ∙ sym (getD-first (λ k. twosComplement (entry text (entryNumber (fileRows text) (fileColumns text) k))) (entryCount text) k d (omega (arith, count))))
+          is .told (entryIndex m n k) (omega (arith, there, whole, count))
+          ∙ ap (λ (ls : List (List ℕ)). twosComplement (entryValue (getD ls (entryIndex m n k) []))) lines-rest
+          ∙ ap₂ (λ (x y : ℕ). twosComplement (entry text (entryIndex x y k))) rows columns
+          ∙ sym (getD-first (λ k. twosComplement (entry text (entryIndex (fileRows text) (fileColumns text) k))) (entryCount text) k d (omega (arith, count))))
 
       same-record : recordOf m n words ≡ marketRecord text
       unfolding recordOf marketRecord

@@ -7,26 +7,26 @@ use mathlib.Core.List.{List, [], _∷_, flatten}
 use native.Mathlib.Omega.{arith}
 use lib.ListN.{length, getD, drop, drop-of-length-le}
 use lib.Seq.{drop-drop}
-use Rattle.market_rules.specs.Lines.{lines, line, linePlace, leadingLines}
+use Rattle.market_rules.specs.Lines.{lines, line, linePlace, leadingCount}
 use Rattle.market_rules.specs.Forms.{isComment}
-use Rattle.market_rules.specs.Market.{comments}
+use Rattle.market_rules.specs.Market.{commentCount}
 use Rattle.market_rules.proofs.LineLaws.{lines-behind, place-behind, leading-one, leading-none}
 use Rattle.market.specs.Parts.{commentBytes}
 
-one-comment : (ls : List (List ℕ)) → isComment (getD ls 0 []) ≡ true → comments ls ≡ suc (comments (drop 1 ls))
+one-comment : (ls : List (List ℕ)) → isComment (getD ls 0 []) ≡ true → commentCount ls ≡ suc (commentCount (drop 1 ls))
 one-comment [] e = absurd (true≢false (sym e))
 one-comment (first ∷ more) e = leading-one isComment first more e
 
-no-comment : (ls : List (List ℕ)) → isComment (getD ls 0 []) ≡ false → comments ls ≡ 0
-no-comment [] e = unfold leadingLines in refl
+no-comment : (ls : List (List ℕ)) → isComment (getD ls 0 []) ≡ false → commentCount ls ≡ 0
+no-comment [] e = unfold leadingCount in refl
 no-comment (first ∷ more) e = leading-none isComment first more e
 
 comment-next : (text : List ℕ) → isComment (line text 0) ≡ true
     → commentBytes text ≡ length (line text 0) + commentBytes (drop (length (line text 0)) text)
 comment-next text e =
     ap (linePlace text) (one-comment (lines text) e)
-    ∙ place-behind text (comments (drop 1 (lines text)))
-    ∙ ap (λ (ls : List (List ℕ)). length (line text 0) + linePlace (drop (length (line text 0)) text) (comments ls)) (sym (lines-behind text))
+    ∙ place-behind text (commentCount (drop 1 (lines text)))
+    ∙ ap (λ (ls : List (List ℕ)). length (line text 0) + linePlace (drop (length (line text 0)) text) (commentCount ls)) (sym (lines-behind text))
 
 comment-stop : (text : List ℕ) → isComment (line text 0) ≡ false → commentBytes text ≡ 0
 comment-stop text e = ap (linePlace text) (no-comment (lines text) e) ∙ (unfold flatten in refl)
@@ -34,7 +34,7 @@ comment-stop text e = ap (linePlace text) (no-comment (lines text) e) ∙ (unfol
 -- from a place on
 module _ (text : List ℕ) (start place : ℕ) (same-end : start + commentBytes (drop start text) ≡ place + commentBytes (drop place text)) where
   pub comments-none : length text ≤ place → place ≡ start + commentBytes (drop start text)
-  unfolding lines leadingLines flatten
+  unfolding lines leadingCount flatten
   comments-none h = sym (same-end ∙ rw (drop-of-length-le text {i = place} h) (omega arith))
 
   pub comments-stop : isComment (line (drop place text) 0) ≡ false → place ≡ start + commentBytes (drop start text)

@@ -14,7 +14,7 @@ use Rattle.limits.proofs.Size.{size-within}
 use Rattle.market_rules.specs.declared.MarketAnswer.{MarketAnswer}
 use Rattle.market_rules.specs.Lines.{lines, line, linePlace}
 use Rattle.market_rules.specs.Forms.{same, firstLine, isSize}
-use Rattle.market_rules.specs.Market.{comments, sizeIndex, sizePlace, fileRows, fileColumns, entryPlace, marketRefused, entriesAnswer, marketAnswer, marketBuffer}
+use Rattle.market_rules.specs.Market.{commentCount, sizeIndex, sizePlace, fileRows, fileColumns, entryPlace, marketRefused, entriesAnswer, marketAnswer, marketBuffer}
 use Rattle.market_rules.proofs.LineLaws.{lines-from, line-from, place-from, place-next}
 use Rattle.market.specs.Parts.{commentBytes, entriesBuffer}
 
@@ -29,11 +29,11 @@ module _ (text : List ℕ) (first : ℕ) (is-first : first ≡ 0 + length (line 
     pub at-size : place ≡ sizePlace text
     unfolding sizeIndex
     at-size =
-        let next : 1 + comments (drop 1 (lines text)) ≡ sizeIndex text = omega arith in
+        let next : 1 + commentCount (drop 1 (lines text)) ≡ sizeIndex text = omega arith in
         is-place
         ∙ ap (λ (p : ℕ). p + commentBytes (drop p text)) first-end
-        ∙ ap (λ (ls : List (List ℕ)). linePlace text 1 + linePlace (drop (linePlace text 1) text) (comments ls)) (lines-from text 1)
-        ∙ sym (place-from text 1 (comments (drop 1 (lines text))))
+        ∙ ap (λ (ls : List (List ℕ)). linePlace text 1 + linePlace (drop (linePlace text 1) text) (commentCount ls)) (lines-from text 1)
+        ∙ sym (place-from text 1 (commentCount (drop 1 (lines text))))
         ∙ ap (linePlace text) next
 
     pub size-there : line (drop place text) 0 ≡ line text (sizeIndex text)

@@ -11,23 +11,23 @@ use Rattle.layout_rules.specs.Places.{firstRecords}
 use Rattle.market_rules.specs.declared.MarketAnswer.{MarketAnswer}
 use Rattle.market_rules.specs.Lines.{lines, linePlace}
 use Rattle.market_rules.specs.Forms.{entryValue}
-use Rattle.market_rules.specs.Market.{comments, entries, twosComplement, entryNumber, marketRecord, marketRefused, entriesAnswer}
+use Rattle.market_rules.specs.Market.{commentCount, leadingEntryCount, twosComplement, entryIndex, marketRecord, marketRefused, entriesAnswer}
 use Rattle.market.specs.declared.Entries.{Entries}
 
 -- how many bytes the comments have that a text begins with
 abbrev pub commentBytes : List ℕ → ℕ
-commentBytes text = linePlace text (comments (lines text))
+commentBytes text = linePlace text (commentCount (lines text))
 
--- the entries read of a text's lines, at most as many as there is room for: how many, where the next line stands, and the numbers whose
--- two bytes say them
+-- the entries read of a text's lines, at most as many as there is room for: how many, how many bytes their lines have, and the numbers
+-- whose two bytes say them
 pub record EntriesRead (text words : List ℕ) (read : Entries) : Type 0 where
-  pub counted : read .count ≡ entries (take (length words) (lines text))
-  pub placed : read .behind ≡ linePlace text (read .count)
+  pub counted : read .count ≡ leadingEntryCount (take (length words) (lines text))
+  pub placed : read .bytes ≡ linePlace text (read .count)
   pub told : (k : ℕ) → k < read .count → getD words k 0 ≡ twosComplement (entryValue (getD (lines text) k []))
 
 -- the record of entries' numbers, which go column by column
 unfoldable pub recordOf : ℕ → ℕ → List ℕ → List ℕ
-recordOf m n words = matrixRecord m n (firstRecords (λ k. getD words (entryNumber m n k) 0) (m * n))
+recordOf m n words = matrixRecord m n (firstRecords (λ k. getD words (entryIndex m n k) 0) (m * n))
 
 -- 6: the buffer is shorter than the record
 unfoldable pub recordAnswer : List ℕ → ℕ → MarketAnswer

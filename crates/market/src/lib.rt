@@ -20,7 +20,7 @@ ghost use Rattle.layout_rules.specs.Bytes.{littleEndian};
 ghost use Rattle.layout_rules.specs.Matrix.{coefficientPlace};
 ghost use Rattle.layout_rules.specs.Places.{firstRecords};
 ghost use Rattle.layout_rules.specs.Written.{written};
-ghost use Rattle.market_rules.specs.Market.{fileRows, fileColumns, entryPlace, entryNumber, entriesAnswer, marketAnswer, marketBuffer};
+ghost use Rattle.market_rules.specs.Market.{fileRows, fileColumns, entryPlace, entryIndex, entriesAnswer, marketAnswer, marketBuffer};
 ghost use Rattle.market.specs.Parts.{commentBytes, EntriesRead, recordOf, recordAnswer, recordBuffer, entriesBuffer};
 
 // Where the comments end that stand from a place on.
@@ -43,26 +43,26 @@ fn comments_end(text: &[u8], start: usize) -> usize
 // Entries read one after another: how many, and how many bytes their lines have.
 pub struct Entries {
     pub count: usize,
-    pub behind: usize,
+    pub bytes: usize,
 }
 
-// Reads entries until the lent numbers are as many, or a line is none.
+// Reads entries until the lent numbers are as many, or a line is no entry.
 fn read_entries(text: &[u8], words: &mut [u16]) -> Entries
     ensures { λ r. ⌜ EntriesRead (now (text .entry)) (now (words .exit)) r ⌝ }
 {
     let mut count: usize = 0;
-    let mut behind: usize = 0;
+    let mut bytes: usize = 0;
     while count < words.len() {
-        let end = line_end(text, behind);
-        let entry = entry_of(&text[behind..end]);
+        let end = line_end(text, bytes);
+        let entry = entry_of(&text[bytes..end]);
         if !entry.form {
-            return Entries { count, behind };
+            return Entries { count, bytes };
         }
         words[count] = entry.word;
         count += 1;
-        behind = end;
+        bytes = end;
     }
-    Entries { count, behind }
+    Entries { count, bytes }
 }
 
 // The coefficients, row by row, of the entries' numbers, which go column by column; they stand behind the record's head.
@@ -70,7 +70,7 @@ fn write_coefficients(m: usize, n: usize, words: &[u16], buffer: &mut [u8])
     requires { ⌜ SizeLimits m n ⌝ }
     requires { ⌜ length (now words) ≡ m * n ⌝ }
     requires { ⌜ coefficientPlace (m * n) ≤ length (now buffer) ⌝ }
-    ensures { λ _. ⌜ now (buffer .exit) ≡ written (now (buffer .entry)) (coefficientPlace 0) (flatMap littleEndian (firstRecords (λ k. getD (now (words .entry)) (entryNumber m n k) 0) (m * n))) ⌝ }
+    ensures { λ _. ⌜ now (buffer .exit) ≡ written (now (buffer .entry)) (coefficientPlace 0) (flatMap littleEndian (firstRecords (λ k. getD (now (words .entry)) (entryIndex m n k) 0) (m * n))) ⌝ }
 {
     for k in 0..words.len() {
         write_word(buffer, coefficient_place(k), words[(k % n) * m + k / n]);
@@ -115,7 +115,7 @@ fn write_entries(
     ensures { λ _. ⌜ now (buffer .exit) ≡ entriesBuffer (now (text .entry)) (now (buffer .entry)) ⌝ }
 {
     let read = read_entries(&text[start..], words);
-    let place = start + read.behind;
+    let place = start + read.bytes;
     if place < text.len() {
         let refusal = if read.count < words.len() { 19 } else { 18 };
         return MarketAnswer::refused(refusal, place);

@@ -14,7 +14,7 @@ use lib.Seq.{drop-drop, getD-drop}
 use borrow.Author.Tests.{ltb-true, lt-ltb, eqb-true, eq-eqb}
 use Rattle.text.specs.Decimal.{decimalValue}
 use Rattle.market_rules.specs.Lines.{lineFeed}
-use Rattle.market_rules.specs.Forms.{blank, minus, same, isDigit, leadingDigits, some, rowDigits, columnDigits, isSize, isNegative, entryDigits, isEntry, entryValue}
+use Rattle.market_rules.specs.Forms.{blank, minus, same, isDigit, leadingDigits, nonempty, rowDigits, columnDigits, isSize, isNegative, entryDigits, isEntry, entryValue}
 use Rattle.market_rules.specs.Market.{twosComplement}
 use Rattle.market_forms.specs.Ends.{endsNumber}
 
@@ -63,7 +63,7 @@ feed-at bytes end =
 
 -- the digits from a place on are some, and a line feed behind them ends the line
 number-places : (bytes : List ℕ) (from : ℕ) → let digits = leadingDigits (drop from bytes) in
-    some digits && same (drop from bytes) (digits ++ (lineFeed ∷ [])) ≡ endsNumber bytes from (from + length digits)
+    nonempty digits && same (drop from bytes) (digits ++ (lineFeed ∷ [])) ≡ endsNumber bytes from (from + length digits)
 number-places bytes from =
     let count : ℕ = length (leadingDigits (drop from bytes)) in
     let counted : ltb 0 count ≡ ltb from (from + count) = both-ways _ _ (λ e. omega (arith, ltb-true, lt-ltb)) (λ e. omega (arith, ltb-true, lt-ltb)) in
@@ -97,8 +97,8 @@ size-counted bytes =
     let second : List ℕ = columnDigits bytes in
     let last : List ℕ = second ++ (lineFeed ∷ []) in
     ap (λ (t : Bool). ltb 0 first && t)
-    (ap (λ (t : Bool). some second && t) (same-behind bytes (blank ∷ last) ∙ blank-at bytes last first)
-    ∙ swapped (some second) (eqb (getD bytes first 0) blank) (same (drop (first + 1) bytes) last)
+    (ap (λ (t : Bool). nonempty second && t) (same-behind bytes (blank ∷ last) ∙ blank-at bytes last first)
+    ∙ swapped (nonempty second) (eqb (getD bytes first 0) blank) (same (drop (first + 1) bytes) last)
     ∙ ap (λ (t : Bool). eqb (getD bytes first 0) blank && t) (number-places bytes (first + 1)))
 
 -- the digits of m are some, a blank stands behind them, and those of n end the line
@@ -125,7 +125,7 @@ pub entry-places : (bytes : List ℕ) (from end : ℕ) → from ≡ cond (isNega
 unfolding isEntry
 entry-places bytes from end sign digits =
     rw (digits, sign)
-    (sym (and-assoc (some (entryDigits bytes)) _ _)
+    (sym (and-assoc (nonempty (entryDigits bytes)) _ _)
     ∙ ap (λ (t : Bool). t && leb (decimalValue (entryDigits bytes)) (cond (isNegative bytes) 32768 32767)) (number-places bytes (cond (isNegative bytes) 1 0)))
 
 -- ---- the word of an entry

@@ -14,7 +14,7 @@ use borrow.Author.Tests.{eqb-false, ne-eqb}
 use Rattle.netlist_rules.proofs.Conditions.{and-says, same-says}
 use Rattle.market_rules.specs.Lines.{lineFeed, beforeLines, lines, line}
 use Rattle.market_rules.specs.Forms.{blank, percent, minus, firstLine, isComment}
-use Rattle.market_rules.specs.Market.{comments}
+use Rattle.market_rules.specs.Market.{commentCount}
 use Rattle.market_rules.specs.Tests.{Says, SizeLine, SignedLine}
 use Rattle.market_rules.specs.File.{Comment}
 use Rattle.market_rules.proofs.LineLaws.{lines-flatten, leading-one, leading-none}
@@ -165,7 +165,7 @@ entry-is-line bytes z l =
     (λ e. record { words = minus ∷ l .digits; its-bytes = e .0; one-line = byte-within minus (l .digits) (λ e. omega arith) within }) (l .its-sign)
 
 pub comment-is-line : (bytes : List ℕ) → Comment bytes → IsLine bytes
-comment-is-line bytes c = record { words = percent ∷ c .words; its-bytes = c .its-bytes; one-line = byte-within percent (c .words) (λ e. omega arith) (c .one-line) }
+comment-is-line bytes c = record { words = percent ∷ c .rest; its-bytes = c .its-bytes; one-line = byte-within percent (c .rest) (λ e. omega arith) (c .one-line) }
 
 -- ---- comments
 
@@ -176,9 +176,9 @@ comment-says bytes =
 
 pub comment-tested : (bytes : List ℕ) → Comment bytes → isComment bytes ≡ true
 comment-tested bytes c =
-    let whole = percent ∷ (c .words ++ (lineFeed ∷ [])) in
-    let last : length whole - 1 ≡ length (percent ∷ c .words) = omega (arith, length-append (c .words) (lineFeed ∷ [])) in
-    ap isComment (c .its-bytes) ∙ comment-says whole .1 (refl, getD-at (percent ∷ c .words) lineFeed [] 0 (length whole - 1) (sym last))
+    let whole = percent ∷ (c .rest ++ (lineFeed ∷ [])) in
+    let last : length whole - 1 ≡ length (percent ∷ c .rest) = omega (arith, length-append (c .rest) (lineFeed ∷ [])) in
+    ap isComment (c .its-bytes) ∙ comment-says whole .1 (refl, getD-at (percent ∷ c .rest) lineFeed [] 0 (length whole - 1) (sym last))
 
 pub tested-comment : (bytes : List ℕ) → Whole bytes → isComment bytes ≡ true → Comment bytes
 tested-comment bytes w e = let l = whole-line bytes w (comment-says bytes .0 e .1) in go (l .words) (l .its-bytes) (l .one-line)
@@ -189,7 +189,7 @@ tested-comment bytes w e = let l = whole-line bytes w (comment-says bytes .0 e .
     go : (words : List ℕ) → bytes ≡ words ++ (lineFeed ∷ []) → WithinLine words → Comment bytes
     go [] is each = absurd (omega (arith, first lineFeed [] is))
     go (b ∷ words) is each = record {
-      words = words;
+      rest = words;
       its-bytes = is ∙ ap (λ (x : ℕ). x ∷ (words ++ (lineFeed ∷ []))) (first b (words ++ (lineFeed ∷ [])) is);
       one-line = λ i h. each (suc i) (omega arith);
     }
@@ -204,7 +204,7 @@ size-no-comment bytes m n l =
 
 -- how many come first
 pub comments-counted : (cs : List (List ℕ)) (next : List ℕ) (more : List (List ℕ)) → ((k : ℕ) → k < length cs → isComment (getD cs k []) ≡ true)
-    → isComment next ≡ false → comments (cs ++ (next ∷ more)) ≡ length cs
+    → isComment next ≡ false → commentCount (cs ++ (next ∷ more)) ≡ length cs
 comments-counted [] next more each other = leading-none isComment next more other
 comments-counted (c ∷ cs) next more each other =
     leading-one isComment c (cs ++ (next ∷ more)) (each 0 (omega arith)) ∙ ap suc (comments-counted cs next more (λ k h. each (suc k) (omega arith)) other)

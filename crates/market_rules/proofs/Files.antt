@@ -24,7 +24,7 @@ use Rattle.bank_rules.specs.Claim.{MatrixWithinLimits}
 use Rattle.market_rules.specs.declared.MarketAnswer.{MarketAnswer}
 use Rattle.market_rules.specs.Lines.{lines, line}
 use Rattle.market_rules.specs.Forms.{same, firstLine, isComment, isSize, sizeRows, sizeColumns, entryValue}
-use Rattle.market_rules.specs.Market.{comments, sizeIndex, sizePlace, fileRows, fileColumns, entryCount, entryLines, entryPlace, entry, entries, marketRecord, marketRefused, marketAccepted, entriesAnswer, marketAnswer, marketBuffer}
+use Rattle.market_rules.specs.Market.{commentCount, sizeIndex, sizePlace, fileRows, fileColumns, entryCount, entryLines, entryPlace, entry, leadingEntryCount, marketRecord, marketRefused, marketAccepted, entriesAnswer, marketAnswer, marketBuffer}
 use Rattle.market_rules.specs.Tests.{SizeLine, EntryLine}
 use Rattle.market_rules.specs.File.{Comment, FileOf}
 use Rattle.market_rules.proofs.LineLaws.{leading-within, leading-passes}
@@ -32,7 +32,7 @@ use Rattle.market_rules.proofs.FormLaws.{size-line, entry-line}
 use Rattle.market_rules.proofs.MarketTests.{market-passes}
 use Rattle.market_rules.proofs.Spelling.{size-said, entry-said}
 use Rattle.market_rules.proofs.FileLines.{file-lines, lines-file, line-whole, first-is-line, line-some, Whole, size-is-line, entry-is-line, comment-is-line, comment-tested, tested-comment, size-no-comment, comments-counted}
-use Rattle.market_rules.proofs.RecordOf.{matrix-determines, parts-within, entryOf, entries-determine, AcceptedText, tests-passed, market-length, market-bytes, market-record, market-entry}
+use Rattle.market_rules.proofs.RecordOf.{matrix-determines, parts-within, columnEntry, entries-determine, AcceptedText, tests-passed, market-length, market-bytes, market-record, market-entry}
 
 -- ---- an accepted text is one that is accepted into every buffer that the longest record fits
 
@@ -55,13 +55,13 @@ module _ (text bytes : List ℕ) (f : FileOf text bytes) where
   said-size = size-said (f .size) m n .1 (f .its-size)
 
   -- entry k's integer stands in the matrix, so that it is in range
-  said-entry : (k : ℕ) → k < m * n → EntryLine (getD (f .entries) k []) (entryOf bytes k)
+  said-entry : (k : ℕ) → k < m * n → EntryLine (getD (f .entries) k []) (columnEntry bytes k)
   said-entry k h =
       let within = parts-within n m k (f .its-record .limits .rows-least) (omega (arith, mul-comm m n)) in
       let range = coefficient-range bytes (f .are-bytes) (k % m * n + k / m) in
       let same = sym (matrix-at bytes (k % m) (k / m) (within .1) (within .0)) in
       record {
-        integer = entry-said (getD (f .entries) k []) (entryOf bytes k) .1 (f .each-entry k h);
+        integer = entry-said (getD (f .entries) k []) (columnEntry bytes k) .1 (f .each-entry k h);
         least = subst (λ (z : ℤ). negsuc 32767 ≤ℤ z) same (range .0);
         most = subst (λ (z : ℤ). z ≤ℤ pos 32767) same (range .1);
       }
@@ -71,12 +71,12 @@ module _ (text bytes : List ℕ) (f : FileOf text bytes) where
       ap lines (f .its-text)
       ∙ file-lines firstLine (f .comments) (f .size) (f .entries) first-is-line (λ k h. comment-is-line (getD (f .comments) k []) (f .each-comment k h))
       (size-is-line (f .size) m n said-size)
-      (λ k h. entry-is-line (getD (f .entries) k []) (entryOf bytes k) (said-entry k (omega (arith, f .all-entries)) .integer))
+      (λ k h. entry-is-line (getD (f .entries) k []) (columnEntry bytes k) (said-entry k (omega (arith, f .all-entries)) .integer))
 
   size-behind : sizeIndex text ≡ suc (length (f .comments))
   unfolding sizeIndex
   size-behind =
-      ap (λ (ls : List (List ℕ)). suc (comments (drop 1 ls))) its-lines
+      ap (λ (ls : List (List ℕ)). suc (commentCount (drop 1 ls))) its-lines
       ∙ ap suc (comments-counted (f .comments) (f .size) (f .entries) (λ k h. comment-tested (getD (f .comments) k []) (f .each-comment k h)) (size-no-comment (f .size) m n said-size))
 
   size-there : line text (sizeIndex text) ≡ f .size
@@ -99,9 +99,9 @@ module _ (text bytes : List ℕ) (f : FileOf text bytes) where
   file-count : entryCount text ≡ m * n
   file-count = ap₂ _*_ file-rows file-columns
 
-  file-entry : (k : ℕ) → k < m * n → entry text k ≡ entryOf bytes k
+  file-entry : (k : ℕ) → k < m * n → entry text k ≡ columnEntry bytes k
   file-entry k h =
-      ap (λ (ls : List (List ℕ)). entryValue (getD ls k [])) entries-there ∙ entry-line (getD (f .entries) k []) (entryOf bytes k) (said-entry k h) .1
+      ap (λ (ls : List (List ℕ)). entryValue (getD ls k [])) entries-there ∙ entry-line (getD (f .entries) k []) (columnEntry bytes k) (said-entry k h) .1
 
   file-accepted : AcceptedText text
   file-accepted = record {
@@ -130,14 +130,14 @@ line-there ls k some = go (decLt k (length ls))
 
 -- a first line, comments, one more line, and the rest
 split-lines : (ls : List (List ℕ)) →
-    let k = comments (drop 1 ls) in
+    let k = commentCount (drop 1 ls) in
     1 ≤ length (getD ls 0 []) → 1 ≤ length (getD ls (suc k) []) → ls ≡ getD ls 0 [] ∷ (take k (drop 1 ls) ++ (getD ls (suc k) [] ∷ drop (suc (suc k)) ls))
 split-lines [] first next = absurd (omega arith)
-split-lines (l ∷ more) first next = ap (λ (ls : List (List ℕ)). l ∷ ls) (split-at more (comments more) [] (line-there more (comments more) next))
+split-lines (l ∷ more) first next = ap (λ (ls : List (List ℕ)). l ∷ ls) (split-at more (commentCount more) [] (line-there more (commentCount more) next))
 
 module _ (text : List ℕ) (a : AcceptedText text) where
   abbrev count : ℕ
-  count = comments (drop 1 (lines text))
+  count = commentCount (drop 1 (lines text))
 
   abbrev its-comments : List (List ℕ)
   its-comments = take count (drop 1 (lines text))
@@ -211,8 +211,8 @@ module _ (text : List ℕ) (room : ℕ) (enough : longestRecord ≤ room) where
   abbrev by-room : Bool → MarketAnswer
   by-room short =
       let due = take (entryCount text) (entryLines text) in
-      elim (ltb (entries due) (length due)) [
-        | true ↦ marketRefused 19 (entryPlace text (entries due))
+      elim (ltb (leadingEntryCount due) (length due)) [
+        | true ↦ marketRefused 19 (entryPlace text (leadingEntryCount due))
         | false ↦
             elim (eqb (length (entryLines text)) (entryCount text)) [
               | false ↦ marketRefused 18 (entryPlace text (entryCount text))

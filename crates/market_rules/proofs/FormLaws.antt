@@ -17,7 +17,7 @@ use Rattle.integers.proofs.Expression.{nat, minus as opposite, at-most, at-most
 use Rattle.netlist_rules.proofs.Conditions.{and-says, at-most-says, below-says}
 use Rattle.text.specs.Decimal.{digitByte, decimalValue}
 use Rattle.market_rules.specs.Lines.{lineFeed}
-use Rattle.market_rules.specs.Forms.{blank, minus, same, isDigit, leadingDigits, some, rowDigits, columnDigits, isSize, sizeRows, sizeColumns, isNegative, isEntry, entryValue}
+use Rattle.market_rules.specs.Forms.{blank, minus, same, isDigit, leadingDigits, nonempty, rowDigits, columnDigits, isSize, sizeRows, sizeColumns, isNegative, isEntry, entryValue}
 use Rattle.market_rules.specs.Tests.{Says, SizeLine, EntryLine}
 
 -- ---- the same bytes
@@ -59,8 +59,8 @@ leading-append (d ∷ ds) b rest each e =
 leading-says : (bytes : List ℕ) → 1 ≤ length (leadingDigits bytes) → Says (leadingDigits bytes) (decimalValue (leadingDigits bytes))
 leading-says bytes h = record { one-or-more = h; decimal-digits = leading-all bytes; value-said = refl }
 
-some-says : (bytes : List ℕ) → (some bytes ≡ true) ↔ (1 ≤ length bytes)
-some-says bytes = below-says 0 (length bytes)
+nonempty-says : (bytes : List ℕ) → (nonempty bytes ≡ true) ↔ (1 ≤ length bytes)
+nonempty-says bytes = below-says 0 (length bytes)
 
 abbrev ended : List ℕ → List ℕ
 ended digits = digits ++ (lineFeed ∷ [])
@@ -74,8 +74,8 @@ module _ (bytes : List ℕ) where
   size-says : (isSize bytes ≡ true) ↔ ((1 ≤ length (rowDigits bytes)) × ((1 ≤ length (columnDigits bytes)) × (bytes ≡ spelled)))
   unfolding isSize
   size-says =
-      and-says (some (rowDigits bytes)) (some (columnDigits bytes) && same bytes spelled) (some-says (rowDigits bytes))
-      (and-says (some (columnDigits bytes)) (same bytes spelled) (some-says (columnDigits bytes)) (same-says bytes spelled))
+      and-says (nonempty (rowDigits bytes)) (nonempty (columnDigits bytes) && same bytes spelled) (nonempty-says (rowDigits bytes))
+      (and-says (nonempty (columnDigits bytes)) (same bytes spelled) (nonempty-says (columnDigits bytes)) (same-says bytes spelled))
 
   pub line-size : isSize bytes ≡ true → SizeLine bytes (sizeRows bytes) (sizeColumns bytes)
   line-size e =
@@ -145,7 +145,7 @@ module _ (bytes : List ℕ) where
       let ends = same (behind-sign t) (ended (digits-behind t)) in
       let near = leb (decimalValue (digits-behind t)) (farthest t) in
       rw e
-      (and-says (some (digits-behind t)) (ends && near) (some-says (digits-behind t))
+      (and-says (nonempty (digits-behind t)) (ends && near) (nonempty-says (digits-behind t))
       (and-says ends near (same-says (behind-sign t) (ended (digits-behind t))) (at-most-says (decimalValue (digits-behind t)) (farthest t))))
 
   entry-is : (t : Bool) → isNegative bytes ≡ t → entryValue bytes ≡ integer-of t (decimalValue (digits-behind t))

@@ -11,7 +11,7 @@ use native.Mathlib.Omega.{arith}
 use lib.Dec.{eqb}
 use lib.ListN.{length, getD, take, drop, length-append, length-drop, drop-of-length-le}
 use lib.Seq.{drop-drop, take-all, take-append-seam, getD-drop}
-use Rattle.market_rules.specs.Lines.{lineFeed, beforeLines, lines, line, linePlace, leadingLines}
+use Rattle.market_rules.specs.Lines.{lineFeed, beforeLines, lines, line, linePlace, leadingCount}
 
 -- ---- all lines together
 
@@ -148,21 +148,21 @@ place-missing text k h = ap (λ (ls : List (List ℕ)). length (flatten ls)) (ta
 
 module _ (test : List ℕ → Bool) where
   abbrev leading : List (List ℕ) → ℕ
-  leading = leadingLines test
+  leading = leadingCount test
 
   abbrev counted : List (List ℕ) → Bool → ℕ
   counted more t = elim t [ true ↦ suc (leading more) | false ↦ 0 ]
 
   pub leading-one : (first : List ℕ) (more : List (List ℕ)) → test first ≡ true → leading (first ∷ more) ≡ suc (leading more)
-  unfolding leadingLines
+  unfolding leadingCount
   leading-one first more e = ap (counted more) e
 
   pub leading-none : (first : List ℕ) (more : List (List ℕ)) → test first ≡ false → leading (first ∷ more) ≡ 0
-  unfolding leadingLines
+  unfolding leadingCount
   leading-none first more e = ap (counted more) e
 
   pub leading-within : (ls : List (List ℕ)) → leading ls ≤ length ls
-  unfolding leadingLines
+  unfolding leadingCount
   leading-within [] = omega arith
   leading-within (first ∷ more) = go (test first) (leading-within more)
     where
@@ -172,7 +172,7 @@ module _ (test : List ℕ → Bool) where
 
   -- each of them passes it
   pub leading-passes : (ls : List (List ℕ)) (i : ℕ) → i < leading ls → test (getD ls i []) ≡ true
-  unfolding leadingLines
+  unfolding leadingCount
   leading-passes [] i h = absurd (omega arith)
   leading-passes (first ∷ more) i h = go (test first) refl (leading-passes more) i h
     where
@@ -184,7 +184,7 @@ module _ (test : List ℕ → Bool) where
 
   -- the next line, if there is one, does not
   pub leading-stops : (ls : List (List ℕ)) → leading ls < length ls → test (getD ls (leading ls) []) ≡ false
-  unfolding leadingLines
+  unfolding leadingCount
   leading-stops [] h = absurd (omega arith)
   leading-stops (first ∷ more) h = go (test first) refl (leading-stops more) h
     where

@@ -17,7 +17,7 @@ use Rattle.layout_rules.proofs.TestLaws.{Decided, behind-test, behind-fault, de
 use Rattle.market_rules.specs.declared.MarketAnswer.{MarketAnswer}
 use Rattle.market_rules.specs.Lines.{line}
 use Rattle.market_rules.specs.Forms.{same, firstLine, isSize, isEntry, entryValue}
-use Rattle.market_rules.specs.Market.{sizeIndex, sizePlace, fileRows, fileColumns, entryCount, entryLines, entryPlace, marketRecord, marketRefused, marketAccepted, entries, entriesAnswer, marketAnswer}
+use Rattle.market_rules.specs.Market.{sizeIndex, sizePlace, fileRows, fileColumns, entryCount, entryLines, entryPlace, marketRecord, marketRefused, marketAccepted, leadingEntryCount, entriesAnswer, marketAnswer}
 use Rattle.market_rules.specs.Tests.{SizeLine, EntryLine, entryTests, marketTests}
 use Rattle.market_rules.proofs.LineLaws.{leading-passes, leading-stops}
 use Rattle.market_rules.proofs.FormLaws.{same-says, line-size, size-line, line-entry, entry-line}
@@ -37,42 +37,42 @@ module _ (ls : List (List ℕ)) (place : ℕ → ℕ) (k : ℕ) where
   due-entry : (i : ℕ) → i < k → isEntry (getD ls i []) ≡ isEntry (getD due i [])
   due-entry i h = ap isEntry (sym (getD-take k ls i [] h))
 
-  counted-passes : (i : ℕ) → i < k → i < entries due → Passes i
+  counted-passes : (i : ℕ) → i < k → i < leadingEntryCount due → Passes i
   counted-passes i h c l = line-entry (getD ls i []) (due-entry i h ∙ leading-passes isEntry due i c)
 
-  next-fails : entries due < length due → Passes (entries due) → ⊥
+  next-fails : leadingEntryCount due < length due → Passes (leadingEntryCount due) → ⊥
   next-fails h p =
-      let i = entries due in
+      let i = leadingEntryCount due in
       let entry = entry-line (getD ls i []) (entryValue (getD ls i [])) (p (omega (arith, length-take k ls))) .0 in
       true≢false (sym entry ∙ due-entry i (omega (arith, length-take k ls)) ∙ leading-stops isEntry due h)
 
   -- where not all lines that are due are entries, the first that is none fails
-  lines-fail : entries due < length due → FirstFails (firstTests line-tests k) 19 (place (entries due))
+  lines-fail : leadingEntryCount due < length due → FirstFails (firstTests line-tests k) 19 (place (leadingEntryCount due))
   unfolding firstTests
   lines-fail h =
-      let i = entries due in
+      let i = leadingEntryCount due in
       let most : suc i + (k - suc i) ≡ k = omega (arith, length-take k ls) in
       rw most at (fails-among 19 (place i) line-tests (suc i) (k - suc i)
       (fails-after 19 (place i) (firstTests line-tests i) (line-tests i) (first-all line-tests i (λ j l. (counted-passes j (omega arith) l, tt)))
       (inl (next-fails h, refl, refl))))
 
   -- a line that is missing passes its test
-  lines-pass : length due ≤ entries due → AllPass (firstTests line-tests k)
+  lines-pass : length due ≤ leadingEntryCount due → AllPass (firstTests line-tests k)
   lines-pass h = first-all line-tests k (λ i l. (λ there. counted-passes i l (omega (arith, length-take k ls)) there, tt))
 
   -- an answer behind them
   lines-decided : {X : Type 0} (us : List Test) (later passed : X) (declined : ℕ → ℕ → X) → Decided us later passed declined
-      → Decided (firstTests line-tests k ++ us) (elim (ltb (entries due) (length due)) [ true ↦ declined 19 (place (entries due)) | false ↦ later ]) passed declined
-  lines-decided us later passed declined d = go (ltb (entries due) (length due)) refl d
+      → Decided (firstTests line-tests k ++ us) (elim (ltb (leadingEntryCount due) (length due)) [ true ↦ declined 19 (place (leadingEntryCount due)) | false ↦ later ]) passed declined
+  lines-decided us later passed declined d = go (ltb (leadingEntryCount due) (length due)) refl d
     where
       ts : List Test
       ts = firstTests line-tests k
 
-      go : (t : Bool) → ltb (entries due) (length due) ≡ t → Decided us later passed declined
-          → Decided (ts ++ us) (elim t [ true ↦ declined 19 (place (entries due)) | false ↦ later ]) passed declined
-      go true e d = inr (19, place (entries due), omega arith, refl, fails-before 19 (place (entries due)) ts us (lines-fail (ltb-true (entries due) (length due) e)))
-      go false e (inl a) = inl (a .0, all-append ts us (lines-pass (ltb-false (entries due) (length due) e)) (a .1))
-      go false e (inr f) = inr (f .0, f .1, f .2, f .3, fails-after (f .0) (f .1) ts us (lines-pass (ltb-false (entries due) (length due) e)) (f .4))
+      go : (t : Bool) → ltb (leadingEntryCount due) (length due) ≡ t → Decided us later passed declined
+          → Decided (ts ++ us) (elim t [ true ↦ declined 19 (place (leadingEntryCount due)) | false ↦ later ]) passed declined
+      go true e d = inr (19, place (leadingEntryCount due), omega arith, refl, fails-before 19 (place (leadingEntryCount due)) ts us (lines-fail (ltb-true (leadingEntryCount due) (length due) e)))
+      go false e (inl a) = inl (a .0, all-append ts us (lines-pass (ltb-false (leadingEntryCount due) (length due) e)) (a .1))
+      go false e (inr f) = inr (f .0, f .1, f .2, f .3, fails-after (f .0) (f .1) ts us (lines-pass (ltb-false (leadingEntryCount due) (length due) e)) (f .4))
 
 -- ---- the whole answer
 

@@ -27,7 +27,7 @@ use Rattle.layout_rules.proofs.MatrixRows.{matrix-length, matrix-row-length, ma
 use Rattle.layout_rules.proofs.TestLaws.{all-append, all-split, first-all, all-first}
 use Rattle.market_rules.specs.Lines.{line}
 use Rattle.market_rules.specs.Forms.{firstLine}
-use Rattle.market_rules.specs.Market.{sizeIndex, fileRows, fileColumns, entryCount, entryLines, entryPlace, entry, twosComplement, entryNumber, coefficientWords, marketRecord}
+use Rattle.market_rules.specs.Market.{sizeIndex, fileRows, fileColumns, entryCount, entryLines, entryPlace, entry, twosComplement, entryIndex, coefficientWords, marketRecord}
 use Rattle.market_rules.specs.Tests.{SizeLine, EntryLine, entryTests, marketTests}
 
 -- ---- two's complement
@@ -63,15 +63,15 @@ pub parts-within : (m n k : ℕ) → 1 ≤ n → k < m * n → (k / n < m) × (k
 parts-within m n k some h = (div-lt-iff-lt-mul some .1 h, mod-lt k some)
 
 -- row k mod m of column k div m
-abbrev pub entryOf : List ℕ → ℕ → ℤ
-entryOf bytes k = getD (getD (matrix bytes) (k % rows bytes) []) (k / rows bytes) (pos 0)
+abbrev pub columnEntry : List ℕ → ℕ → ℤ
+columnEntry bytes k = getD (getD (matrix bytes) (k % rows bytes) []) (k / rows bytes) (pos 0)
 
-entry-at : (b : List ℕ) (i j : ℕ) → i < rows b → entryOf b (j * rows b + i) ≡ getD (getD (matrix b) i []) j (pos 0)
+entry-at : (b : List ℕ) (i j : ℕ) → i < rows b → columnEntry b (j * rows b + i) ≡ getD (getD (matrix b) i []) j (pos 0)
 entry-at b i j h =
     let parts = number-parts (rows b) j i h in
     ap₂ (λ (x y : ℕ). getD (getD (matrix b) x []) y (pos 0)) (parts .0) (parts .1)
 
-pub entries-determine : (b c : List ℕ) → rows b ≡ rows c → columns b ≡ columns c → ((k : ℕ) → k < rows b * columns b → entryOf b k ≡ entryOf c k)
+pub entries-determine : (b c : List ℕ) → rows b ≡ rows c → columns b ≡ columns c → ((k : ℕ) → k < rows b * columns b → columnEntry b k ≡ columnEntry c k)
     → matrix b ≡ matrix c
 entries-determine b c same-rows same-columns each =
     ext-getD [] (matrix b) (matrix c) (matrix-length b ∙ same-rows ∙ sym (matrix-length c)) (λ i h. same-row i (omega (arith, matrix-length b)))
@@ -80,7 +80,7 @@ entries-determine b c same-rows same-columns each =
     same-at i j h k =
         let up-to : suc j * rows b ≤ columns b * rows b = mul-le-mul k (le-refl (rows b)) in
         sym (entry-at b i j h) ∙ each (j * rows b + i) (omega (arith, mul-comm (rows b) (columns b)))
-        ∙ ap (λ (m : ℕ). entryOf c (j * m + i)) same-rows
+        ∙ ap (λ (m : ℕ). columnEntry c (j * m + i)) same-rows
         ∙ entry-at c i j (omega arith)
 
     same-row : (i : ℕ) → i < rows b → getD (matrix b) i [] ≡ getD (matrix c) i []
@@ -181,14 +181,14 @@ tests-passed text room = (there, back)
 
 -- each coefficient's entry is one of m times n
 
-pub within-number : (m n k : ℕ) → 1 ≤ n → k < m * n → entryNumber m n k < m * n
+pub within-number : (m n k : ℕ) → 1 ≤ n → k < m * n → entryIndex m n k < m * n
 within-number m n k some h =
     let within = parts-within m n k some h in
     let up-to : suc (k % n) * m ≤ n * m = mul-le-mul (within .1) (le-refl m) in
     omega (arith, mul-comm m n)
 
 -- the file's number of row i of column j
-number-of : (m n i j : ℕ) → j < n → entryNumber m n (i * n + j) ≡ j * m + i
+number-of : (m n i j : ℕ) → j < n → entryIndex m n (i * n + j) ≡ j * m + i
 number-of m n i j h = let parts = number-parts n i j h in ap₂ (λ (x y : ℕ). x * m + y) (parts .0) (parts .1)
 
 module _ (text : List ℕ) where
@@ -200,7 +200,7 @@ module _ (text : List ℕ) where
 
   -- the two bytes of a coefficient of a number, as one number
   abbrev coefficientWord : ℕ → ℕ
-  coefficientWord k = twosComplement (entry text (entryNumber m n k))
+  coefficientWord k = twosComplement (entry text (entryIndex m n k))
 
   pub market-rows : rows (marketRecord text) ≡ m
   unfolding marketRecord
@@ -226,8 +226,8 @@ module _ (text : List ℕ) where
       where
         go : Dec (k < m * n) → getD (coefficientWords text) k 0 < 65536
         go (yes h) =
-            let its = accepted .each-entry (entryNumber m n k) (within-number m n k (accepted .limits .columns-least) h) in
-            rw (word-at k h) (complement-below (entry text (entryNumber m n k)) (its .most))
+            let its = accepted .each-entry (entryIndex m n k) (within-number m n k (accepted .limits .columns-least) h) in
+            rw (word-at k h) (complement-below (entry text (entryIndex m n k)) (its .most))
         go (no h) = rw (List·getD-eq-default (coefficientWords text) 0 {n = k} (omega (arith, all-words))) (omega arith)
 
     pub market-bytes : AreBytes (marketRecord text)

@@ -14,7 +14,7 @@ use Rattle.text.proofs.Decimal.{number-small, number-large, number-back, some-d
 use Rattle.market_rules.specs.Lines.{lineFeed}
 use Rattle.market_rules.specs.Forms.{minus}
 use Rattle.market_rules.specs.Tests.{Says, SizeLine, SignedLine}
-use Rattle.market_rules.specs.File.{Spells, SizeOf, EntryOf}
+use Rattle.market_rules.specs.File.{Spells, SizeSpelled, EntrySpelled}
 use Rattle.market_rules.proofs.FormLaws.{Digits}
 
 abbrev IsDigit : ℕ → Type 0
@@ -116,10 +116,10 @@ spelled-says bytes value = (there bytes, back)
           value-said = spelled-value (s .zeros) value;
         })
 
-pub size-said : (bytes : List ℕ) (m n : ℕ) → SizeLine bytes m n ↔ SizeOf bytes m n
+pub size-said : (bytes : List ℕ) (m n : ℕ) → SizeLine bytes m n ↔ SizeSpelled bytes m n
 size-said bytes m n = (there, back)
   where
-    there : SizeLine bytes m n → SizeOf bytes m n
+    there : SizeLine bytes m n → SizeSpelled bytes m n
     there l = record {
       first = l .first;
       second = l .second;
@@ -128,7 +128,7 @@ size-said bytes m n = (there, back)
       its-bytes = l .its-bytes;
     }
 
-    back : SizeOf bytes m n → SizeLine bytes m n
+    back : SizeSpelled bytes m n → SizeLine bytes m n
     back l = record {
       first = l .first;
       second = l .second;
@@ -137,10 +137,10 @@ size-said bytes m n = (there, back)
       its-columns = spelled-says (l .second) n .1 (l .its-columns);
     }
 
-pub entry-said : (bytes : List ℕ) (z : ℤ) → SignedLine bytes z ↔ EntryOf bytes z
+pub entry-said : (bytes : List ℕ) (z : ℤ) → SignedLine bytes z ↔ EntrySpelled bytes z
 entry-said bytes z = (there, back)
   where
-    there : SignedLine bytes z → EntryOf bytes z
+    there : SignedLine bytes z → EntrySpelled bytes z
     there l =
         let its = spelled-says (l .digits) (l .value) .0 (l .its-value) in
         ⊎-elim
@@ -156,7 +156,7 @@ entry-said bytes z = (there, back)
         })
         (l .its-sign)
 
-    back : EntryOf bytes z → SignedLine bytes z
+    back : EntrySpelled bytes z → SignedLine bytes z
     back e =
         let i = e .its-integer in
         let ended : (digits : List ℕ) → e .spelled ≡ digits → bytes ≡ digits ++ (lineFeed ∷ []) =

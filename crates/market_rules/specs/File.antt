@@ -24,20 +24,22 @@ pub record SpellsSigned (bytes : List ℕ) (z : ℤ) : Type 0 where
   pub its-value : Spells digits value
   pub its-sign : ((bytes ≡ digits) × (z ≡ pos value)) ⊎ ((bytes ≡ minus ∷ digits) × (z ≡ negℤ (pos value)))
 
--- a line: a line feed behind bytes among which there is none
+-- a comment: %, bytes without a line feed, a line feed
 pub record Comment (bytes : List ℕ) : Type 0 where
-  pub words : List ℕ
-  pub its-bytes : bytes ≡ percent ∷ (words ++ (lineFeed ∷ []))
-  pub one-line : (i : ℕ) → i < length words → getD words i 0 ≡ lineFeed → ⊥
+  pub rest : List ℕ
+  pub its-bytes : bytes ≡ percent ∷ (rest ++ (lineFeed ∷ []))
+  pub one-line : (i : ℕ) → i < length rest → getD rest i 0 ≡ lineFeed → ⊥
 
-pub record SizeOf (bytes : List ℕ) (m n : ℕ) : Type 0 where
+-- "a line of m and n with one blank between"
+pub record SizeSpelled (bytes : List ℕ) (m n : ℕ) : Type 0 where
   pub first : List ℕ
   pub second : List ℕ
   pub its-rows : Spells first m
   pub its-columns : Spells second n
   pub its-bytes : bytes ≡ first ++ (blank ∷ (second ++ (lineFeed ∷ [])))
 
-pub record EntryOf (bytes : List ℕ) (z : ℤ) : Type 0 where
+-- "one entry a line"
+pub record EntrySpelled (bytes : List ℕ) (z : ℤ) : Type 0 where
   pub spelled : List ℕ
   pub its-integer : SpellsSigned spelled z
   pub its-bytes : bytes ≡ spelled ++ (lineFeed ∷ [])
@@ -51,8 +53,8 @@ pub record FileOf (text bytes : List ℕ) : Type 0 where
   pub entries : List (List ℕ)
   pub its-text : text ≡ firstLine ++ (flatten comments ++ (size ++ flatten entries))
   pub each-comment : (k : ℕ) → k < length comments → Comment (getD comments k [])
-  pub its-size : SizeOf size (rows bytes) (columns bytes)
+  pub its-size : SizeSpelled size (rows bytes) (columns bytes)
   pub all-entries : length entries ≡ rows bytes * columns bytes
   -- "column by column": entry k is row k mod m of column k div m
   pub each-entry : (k : ℕ) → k < rows bytes * columns bytes
-      → EntryOf (getD entries k []) (getD (getD (matrix bytes) (k % rows bytes) []) (k / rows bytes) (pos 0))
+      → EntrySpelled (getD entries k []) (getD (getD (matrix bytes) (k % rows bytes) []) (k / rows bytes) (pos 0))

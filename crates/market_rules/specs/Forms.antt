@@ -30,7 +30,7 @@ same (x ∷ xs) (y ∷ ys) = eqb x y && same xs ys
 
 -- ---- the first line, and comments
 
--- "The first line is `%%MatrixMarket matrix array integer general`", byte for byte
+-- "The first line is `%%MatrixMarket matrix array integer general`, byte for byte", with its line feed
 abbrev pub firstLine : List ℕ
 firstLine = ascii "%%MatrixMarket matrix array integer general\n"
 
@@ -48,8 +48,8 @@ unfoldable pub leadingDigits : List ℕ → List ℕ
 leadingDigits [] = []
 leadingDigits (b ∷ bytes) = elim (isDigit b) [ true ↦ b ∷ leadingDigits bytes | false ↦ [] ]
 
-abbrev pub some : List ℕ → Bool
-some bytes = ltb 0 (length bytes)
+abbrev pub nonempty : List ℕ → Bool
+nonempty bytes = ltb 0 (length bytes)
 
 -- ---- the size line: "a line of m and n with one blank between"
 
@@ -61,7 +61,7 @@ columnDigits bytes = leadingDigits (drop (length (rowDigits bytes) + 1) bytes)
 
 unfoldable pub isSize : List ℕ → Bool
 isSize bytes =
-    some (rowDigits bytes) && (some (columnDigits bytes)
+    nonempty (rowDigits bytes) && (nonempty (columnDigits bytes)
     && same bytes (rowDigits bytes ++ (blank ∷ (columnDigits bytes ++ (lineFeed ∷ [])))))
 
 -- m and n
@@ -86,7 +86,7 @@ entryDigits bytes = leadingDigits (unsigned bytes)
 -- "an integer from −32,768 to 32,767"
 unfoldable pub isEntry : List ℕ → Bool
 isEntry bytes =
-    some (entryDigits bytes) && (same (unsigned bytes) (entryDigits bytes ++ (lineFeed ∷ []))
+    nonempty (entryDigits bytes) && (same (unsigned bytes) (entryDigits bytes ++ (lineFeed ∷ []))
     && leb (decimalValue (entryDigits bytes)) (cond (isNegative bytes) 32768 32767))
 
 unfoldable pub entryValue : List ℕ → ℤ

@@ -10,7 +10,7 @@ use lib.ListN.{length, getD, take}
 abbrev pub lineFeed : ℕ
 lineFeed = 10
 
--- a byte, and the lines that follow it, of which the first is its own
+-- a byte put before lines: it begins the first of them
 abbrev pub beforeLines : ℕ → List (List ℕ) → List (List ℕ)
 beforeLines b [] = (b ∷ []) ∷ []
 beforeLines b (first ∷ more) = (b ∷ first) ∷ more
@@ -25,9 +25,9 @@ abbrev pub line : List ℕ → ℕ → List ℕ
 line text k = getD (lines text) k []
 
 -- how many lines, from the first of them on, pass a test
-unfoldable pub leadingLines : (List ℕ → Bool) → List (List ℕ) → ℕ
-leadingLines test [] = 0
-leadingLines test (first ∷ more) = elim (test first) [ true ↦ suc (leadingLines test more) | false ↦ 0 ]
+unfoldable pub leadingCount : (List ℕ → Bool) → List (List ℕ) → ℕ
+leadingCount test [] = 0
+leadingCount test (first ∷ more) = elim (test first) [ true ↦ suc (leadingCount test more) | false ↦ 0 ]
 
 -- "the start of the line", "or the file's end where a line is missing"
 abbrev pub linePlace : List ℕ → ℕ → ℕ

@@ -10,18 +10,18 @@ use Rattle.limits.specs.Size.{sizeOutside}
 use Rattle.layout_rules.specs.Matrix.{matrixRecord}
 use Rattle.layout_rules.specs.Places.{firstRecords}
 use Rattle.market_rules.specs.declared.MarketAnswer.{MarketAnswer}
-use Rattle.market_rules.specs.Lines.{lines, line, linePlace, leadingLines}
+use Rattle.market_rules.specs.Lines.{lines, line, linePlace, leadingCount}
 use Rattle.market_rules.specs.Forms.{same, firstLine, isComment, isSize, sizeRows, sizeColumns, isEntry, entryValue}
 
 -- ---- the lines of a file
 
 -- how many lines, from the first of them on, are comments
-abbrev pub comments : List (List ℕ) → ℕ
-comments ls = leadingLines isComment ls
+abbrev pub commentCount : List (List ℕ) → ℕ
+commentCount ls = leadingCount isComment ls
 
--- the size line is the first behind the first line that is no comment: its number, its place, and the m and n that it says
+-- the size line, the first behind the first line and the comments: its index, its place, and the m and n that it says
 unfoldable pub sizeIndex : List ℕ → ℕ
-sizeIndex text = suc (comments (drop 1 (lines text)))
+sizeIndex text = suc (commentCount (drop 1 (lines text)))
 
 abbrev pub sizePlace : List ℕ → ℕ
 sizePlace text = linePlace text (sizeIndex text)
@@ -36,7 +36,7 @@ fileColumns text = sizeColumns (line text (sizeIndex text))
 abbrev pub entryCount : List ℕ → ℕ
 entryCount text = fileRows text * fileColumns text
 
--- the lines behind the size line, and where the one of a number stands
+-- the lines behind the size line, and where line k of them starts
 abbrev pub entryLines : List ℕ → List (List ℕ)
 entryLines text = drop (suc (sizeIndex text)) (lines text)
 
@@ -48,18 +48,18 @@ entry text k = entryValue (getD (entryLines text) k [])
 
 -- ---- the record
 
--- "little-endian two's complement": the number whose two bytes say a coefficient
+-- "two's complement": the number whose two bytes say a coefficient
 abbrev pub twosComplement : ℤ → ℕ
 twosComplement (pos x) = x
 twosComplement (negsuc x) = 65535 - x
 
--- the record goes row by row: its coefficient of a given number stands in row number div n and column number mod n. The file goes column
--- by column: row i of column j is its entry j times m plus i
-abbrev pub entryNumber : ℕ → ℕ → ℕ → ℕ
-entryNumber m n k = k % n * m + k / n
+-- the record goes row by row, the file column by column: coefficient k stands in row k div n and column k mod n; row i of column j is the
+-- file's entry j times m plus i
+abbrev pub entryIndex : ℕ → ℕ → ℕ → ℕ
+entryIndex m n k = k % n * m + k / n
 
 abbrev pub coefficientWords : List ℕ → List ℕ
-coefficientWords text = firstRecords (λ k. twosComplement (entry text (entryNumber (fileRows text) (fileColumns text) k))) (entryCount text)
+coefficientWords text = firstRecords (λ k. twosComplement (entry text (entryIndex (fileRows text) (fileColumns text) k))) (entryCount text)
 
 unfoldable pub marketRecord : List ℕ → List ℕ
 marketRecord text = matrixRecord (fileRows text) (fileColumns text) (coefficientWords text)
@@ -73,16 +73,16 @@ abbrev pub marketAccepted : List ℕ → MarketAnswer
 marketAccepted text = record { refusal = 0; place = 0; written = length (marketRecord text) }
 
 -- how many lines, from the first of them on, are entries
-abbrev pub entries : List (List ℕ) → ℕ
-entries ls = leadingLines isEntry ls
+abbrev pub leadingEntryCount : List (List ℕ) → ℕ
+leadingEntryCount ls = leadingCount isEntry ls
 
 -- 19: one of the first m times n entry lines is not an integer from −32,768 to 32,767, tested line by line; 18: the entries are too few or
 -- too many; 6: the buffer, of so many bytes, is shorter than the record
 unfoldable pub entriesAnswer : List ℕ → ℕ → MarketAnswer
 entriesAnswer text room =
     let due = take (entryCount text) (entryLines text) in
-    elim (ltb (entries due) (length due)) [
-      | true ↦ marketRefused 19 (entryPlace text (entries due))
+    elim (ltb (leadingEntryCount due) (length due)) [
+      | true ↦ marketRefused 19 (entryPlace text (leadingEntryCount due))
       | false ↦
           elim (eqb (length (entryLines text)) (entryCount text)) [
             | false ↦ marketRefused 18 (entryPlace text (entryCount text))

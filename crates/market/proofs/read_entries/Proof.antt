@@ -8,18 +8,18 @@ use lib.ListN.{length, take, drop, length-set}
 use borrow.Author.Tests.{not-true, not-false}
 use Rattle.market_rules.specs.Lines.{lines, line}
 use Rattle.market_rules.specs.Forms.{isEntry, entryValue}
-use Rattle.market_rules.specs.Market.{entries, twosComplement}
+use Rattle.market_rules.specs.Market.{leadingEntryCount, twosComplement}
 use Rattle.market_rules.proofs.LineLaws.{line-part}
 use Rattle.market.proofs.Reading.{ReadSoFar, read-none, behind-within, read-all, read-stop, read-next}
 use Rattle.market.proofs.read_entries.Statement.{statement}
 use Rattle.market.proofs.read_entries.Tie as tie
 
 abbrev Inv-loop : tie.InvT-loop
-Inv-loop text words₀ count₀ behind₀ words count behind =
-    (length words ≡ length words₀) × (count ≤ length words₀) × ReadSoFar text (length words₀) words count behind
+Inv-loop text words₀ count₀ bytes₀ words count bytes =
+    (length words ≡ length words₀) × (count ≤ length words₀) × ReadSoFar text (length words₀) words count bytes
 
 abbrev μ-loop : tie.MeasureT-loop
-μ-loop text words₀ count₀ behind₀ words count behind = length words₀ - count
+μ-loop text words₀ count₀ bytes₀ words count bytes = length words₀ - count
 
 -- the line behind those read, and what is told of it
 module _ (c : tie.After-entry-of Inv-loop μ-loop) where
@@ -27,7 +27,7 @@ module _ (c : tie.After-entry-of Inv-loop μ-loop) where
   text = c .before .before .before .before .before .before .before .args .text .now
 
   abbrev behind : ℕ
-  behind = c .before .before .before .before .loop .behind
+  behind = c .before .before .before .before .loop .bytes
 
   abbrev next : List ℕ
   next = line (drop behind text) 0
@@ -71,7 +71,7 @@ returns c =
     let l = e .before .before .before .before .loop in
     let none = sym (its-form e) ∙ not-true (e .entry-of .result .form) (c .if1 .taken) in
     record {
-      counted = read-stop _ _ _ _ _ (l .inv .2) none ∙ ap (λ (k : ℕ). entries (take k (lines (text e)))) (sym (l .inv .0));
+      counted = read-stop _ _ _ _ _ (l .inv .2) none ∙ ap (λ (k : ℕ). leadingEntryCount (take k (lines (text e)))) (sym (l .inv .0));
       placed = l .inv .2 .placed;
       told = l .inv .2 .told;
     }
@@ -107,7 +107,7 @@ returns-2 c =
     let l = c .before .loop in
     let text = c .before .before .before .before .args .text .now in
     record {
-      counted = read-all _ _ _ _ _ (l .inv .2) (omega (arith, l .inv .0)) ∙ ap (λ (k : ℕ). entries (take k (lines text))) (sym (l .inv .0));
+      counted = read-all _ _ _ _ _ (l .inv .2) (omega (arith, l .inv .0)) ∙ ap (λ (k : ℕ). leadingEntryCount (take k (lines text))) (sym (l .inv .0));
       placed = l .inv .2 .placed;
       told = l .inv .2 .told;
     }

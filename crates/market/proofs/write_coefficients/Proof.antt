@@ -8,7 +8,7 @@ use Rattle.layout_rules.specs.Bytes.{littleEndian}
 use Rattle.layout_rules.specs.Matrix.{coefficientPlace}
 use Rattle.layout_rules.specs.Places.{firstRecords}
 use Rattle.layout_rules.specs.Written.{written}
-use Rattle.market_rules.specs.Market.{entryNumber}
+use Rattle.market_rules.specs.Market.{entryIndex}
 use Rattle.market_rules.proofs.RecordOf.{within-number}
 use Rattle.market.proofs.Coefficients.{coefficients-none, coefficient-length, coefficient-next}
 use Rattle.market.proofs.write_coefficients.Statement.{statement}
@@ -17,7 +17,7 @@ use Rattle.market.proofs.write_coefficients.Tie as tie
 abbrev Inv-loop : tie.InvT-loop
 Inv-loop m n words buffer₀ k₀ k-end buffer k =
     (k ≤ length words) × (length buffer ≡ length buffer₀)
-    × (buffer ≡ written buffer₀ (coefficientPlace 0) (flatMap littleEndian (firstRecords (λ i. getD words (entryNumber m n i) 0) k)))
+    × (buffer ≡ written buffer₀ (coefficientPlace 0) (flatMap littleEndian (firstRecords (λ i. getD words (entryIndex m n i) 0) k)))
 
 abbrev μ-loop : tie.MeasureT-loop
 μ-loop m n words buffer₀ k₀ k-end buffer k = length words - k
@@ -26,7 +26,7 @@ abbrev μ-loop : tie.MeasureT-loop
 below : (c : tie.After-coefficient-place Inv-loop μ-loop)
     → let l = c .before .before .before in
     let s = l .before .before .before in
-    entryNumber (s .args .m) (s .args .n) (l .loop .k) < length (s .args .words .now)
+    entryIndex (s .args .m) (s .args .n) (l .loop .k) < length (s .args .words .now)
 below c =
     let l = c .before .before .before in
     let s = l .before .before .before in
@@ -72,7 +72,7 @@ loop-again c =
     let l = w .before .before .before .before .before in
     let s = l .before .before .before in
     let words = s .args .words .now in
-    let at : ℕ → ℕ = λ k. getD words (entryNumber (s .args .m) (s .args .n) k) 0 in
+    let at : ℕ → ℕ = λ k. getD words (entryIndex (s .args .m) (s .args .n) k) 0 in
     let old = s .args .buffer .now in
     let after = w .write-word .last .0 in
     let one = w .write-word .ensures ∙ ap (λ (place : ℕ). written (l .loop .buffer) place (littleEndian (at (l .loop .k)))) (w .before .before .coefficient-place .ensures) in
@@ -88,7 +88,7 @@ returns : tie.Need-returns Inv-loop μ-loop
 returns c =
     let l = c .before in
     let s = l .before .before .before in
-    let at : ℕ → ℕ = λ k. getD (s .args .words .now) (entryNumber (s .args .m) (s .args .n) k) 0 in
+    let at : ℕ → ℕ = λ k. getD (s .args .words .now) (entryIndex (s .args .m) (s .args .n) k) 0 in
     let all : l .loop .k ≡ s .args .m * s .args .n = omega (arith, s .pre .1 .0) in
     l .loop .inv .2 ∙ ap (λ (k : ℕ). written (s .args .buffer .now) (coefficientPlace 0) (flatMap littleEndian (firstRecords at k))) all
 

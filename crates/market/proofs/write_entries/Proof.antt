@@ -47,7 +47,7 @@ module _ (c : tie.After-read-entries) where
   all : length words ≡ entryCount (text s)
   all = same-count ∙ s .pre .1 .0 ∙ ap₂ _*_ (s .pre .1 .1 .1 .0) (s .pre .1 .1 .1 .1)
 
-  behind-within : start s + c .read-entries .result .behind ≤ length (text s)
+  behind-within : start s + c .read-entries .result .bytes ≤ length (text s)
   behind-within =
       omega (arith, within s, read .placed, place-within (drop (start s) (text s)) (c .read-entries .result .count), length-drop (start s) (text s))
 
@@ -77,7 +77,7 @@ returns c =
     let j = c .before in
     let left = j .before .before in
     let e = left .before .before .before .before in
-    let refused : ℕ → MarketAnswer = λ r. marketRefused r (start (s e) + e .read-entries .result .behind) in
+    let refused : ℕ → MarketAnswer = λ r. marketRefused r (start (s e) + e .read-entries .result .bytes) in
     ⊎-elim
     (λ t.
     let both = no-entry (text (s e)) (start (s e)) (starts (s e)) (s e .args .buffer .now) (words e) (e .read-entries .result) (read e) (all e) (within (s e)) (left .if1 .taken) (t .0 .taken) in

@@ -1,6 +1,6 @@
 -- `market::write_record` meets its contract. Assumes nothing.
 use Prim.Native.Nat.{ℕ, _≤_, _<_}
-use mathlib.Core.Path.{_≡_, ap, _∙_}
+use mathlib.Core.Path.{_≡_, _∙_}
 use mathlib.Core.List.{List}
 use native.Mathlib.Omega.{arith}
 use borrow.Author.Needs.{needs}
@@ -8,7 +8,7 @@ use lib.ListN.{length}
 use Rattle.layout_rules.specs.Matrix.{matrixLength, longestRecord}
 use Rattle.layout_rules.proofs.MatrixRecord.{record-fits as few-bytes}
 use Rattle.market.specs.Parts.{recordOf}
-use Rattle.market.proofs.Record.{record-length, coefficients-written, record-refused, record-fits}
+use Rattle.market.proofs.Record.{record-length, record-refused, record-left}
 use Rattle.market.proofs.write_record.Statement.{statement}
 use Rattle.market.proofs.write_record.Tie as tie
 
@@ -65,9 +65,7 @@ returns-2 c =
     let place = fits .before .coefficient-place .ensures in
     let h = w .before .before .before .before .write-matrix-head .ensures in
     let size : fits .before .coefficient-place .result ≡ length (bytes s) = omega (arith, place, s .pre .1, record-length (m s) (n s) (words s)) in
-    let room : length (bytes s) ≤ length (s .args .buffer .now) = omega (arith, size, fits .if1 .left) in
-    let both = record-fits (bytes s) (s .args .buffer .now) room in
-    (ap (λ (k : ℕ). record { refusal = 0; place = 0; written = k }) size ∙ both .0, w .write-coefficients .ensures ∙ coefficients-written (m s) (n s) (words s) (s .args .buffer .now) _ room h ∙ both .1)
+    record-left (m s) (n s) (words s) (s .args .buffer .now) _ _ _ size (omega (arith, fits .if1 .left)) h (w .write-coefficients .ensures)
 
 pub write-record-spec : {M : Type 1} → statement M
 write-record-spec =
