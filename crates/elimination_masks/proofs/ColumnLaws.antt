@@ -11,6 +11,7 @@ use lib.Bits.{bitAnd, and-zero-r}
 use lib.Count.{ones}
 use lib.ListN.{length, getD}
 use borrow.Author.Tests.{eqb-true, eqb-false, eq-eqb, ne-eqb, lt-ltb, le-ltb}
+use Rattle.integers.proofs.Truth.{same-truth}
 use Rattle.limits.specs.Limits.{maxRows, positions, termSymbols}
 use Rattle.elimination_rules.specs.declared.Divisor.{Divisor}
 use Rattle.elimination_rules.specs.Rows.{Row, EachRow, WellFormed}
@@ -28,7 +29,7 @@ use Rattle.elimination_masks.specs.Masks.{plusIn, minusIn, occurrencesIn
 use Rattle.elimination_masks.specs.Columns.{ColumnsOf, TakenMasks, columnsScore, columnsDiffer, columnsFirst}
 use Rattle.elimination_masks.proofs.Turns.{yes-branch, no-branch}
 use Rattle.elimination_rules.proofs.SignsAfter.{sign-most}
-use Rattle.elimination_masks.proofs.MaskLaws.{OccurrencesOf, occurrences-of, TakenOf, taken-of, ones-count, same-truth, nowhere-bits, changed-masks}
+use Rattle.elimination_masks.proofs.MaskLaws.{OccurrencesOf, occurrences-of, TakenOf, taken-of, ones-count, nowhere-bits, changed-masks}
 
 -- a row and those behind it, counted from one
 here : (i : ℕ) → i ≡ i + 0

@@ -14,6 +14,7 @@ use lib.Bits.{bitAnd}
 use lib.Count.{ones, onesIn, ones-cat}
 use lib.ListN.{getD, List·getD-eq-default}
 use borrow.Author.Tests.{eqb-true, eqb-false, eq-eqb, ltb-true, lt-ltb, not-true}
+use Rattle.integers.proofs.Truth.{same-truth}
 use Rattle.limits.specs.Limits.{positions}
 use Rattle.elimination_rules.specs.declared.Divisor.{Divisor}
 use Rattle.elimination_rules.specs.RowOrder.{differ}
@@ -191,11 +192,6 @@ ones-count (suc n) x h =
     omega arith
 
 -- ---- among the first co-divisors
-
-pub same-truth : (a b : Bool) → (a ≡ true → b ≡ true) → (b ≡ true → a ≡ true) → a ≡ b
-same-truth true b f g = sym (f refl)
-same-truth false true f g = g refl
-same-truth false false f g = refl
 
 module _ (signs : Signs) (d : Divisor) where
   nowhere : (n : ℕ) → occursNowhere signs d n ≡ true → (c : ℕ) → c < n → occursAt signs d c ≡ false

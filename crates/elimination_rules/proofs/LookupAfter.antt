@@ -9,6 +9,7 @@ use native.Mathlib.Omega.{arith}
 use lib.Dec.{eqb, leb}
 use lib.ListN.{getD}
 use borrow.Author.Tests.{eqb-true, eq-eqb, leb-true, le-leb}
+use Rattle.integers.proofs.Truth.{same-truth}
 use Rattle.term.specs.declared.Term.{Term}
 use Rattle.elimination_rules.specs.declared.Divisor.{Divisor}
 use Rattle.elimination_rules.specs.Rows.{Row, Ascending}
@@ -173,10 +174,6 @@ part-is symbol exponent flags t e =
       and-right l g r,
     )
 
-both-ways : (a b : Bool) → (a ≡ true → b ≡ true) → (b ≡ true → a ≡ true) → a ≡ b
-both-ways true b f g = sym (f refl)
-both-ways false b f g = by-bool b (λ e. g e ∙ sym e) (λ e. sym e)
-
 module _ (d : Divisor) (flags : List Bool) (r : Row) (a : Ascending r) (t : Term) (m : List·Memᴰ t r) where
   part-of-pair : ofPairs (pairsFrom (signAt r) d 0 flags) t ≡ true → partOfTaken d flags t ≡ true
   part-of-pair e =
@@ -213,7 +210,7 @@ pub kept-terms : (d : Divisor) (flags : List Bool) (r : Row) → Ascending r →
 kept-terms d flags r a =
     let ps : List Pair = pairsFrom (signAt r) d 0 flags in
     without-pairs-is ps r a
-    ∙ without-same (ofPairs ps) (partOfTaken d flags) r (λ t m. both-ways (ofPairs ps t) (partOfTaken d flags t) (part-of-pair d flags r a t m) (pair-of-part d flags r a t m))
+    ∙ without-same (ofPairs ps) (partOfTaken d flags) r (λ t m. same-truth (ofPairs ps t) (partOfTaken d flags t) (part-of-pair d flags r a t m) (pair-of-part d flags r a t m))
     ∙ sym (kept-is d flags r)
 
 -- ---- the new terms

@@ -1,4 +1,5 @@
--- Laws of ℤ that the logic's library lacks, lowest first. No word of the domain stands in them.
+-- Laws of ℤ, and one of Bool, that the logic's library lacks, lowest first. No word of the domain stands in them.
+pub mod Truth
 pub mod Difference
 pub mod Expression
 pub mod Ring

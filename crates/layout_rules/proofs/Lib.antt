@@ -13,3 +13,4 @@ pub mod InBytes
 pub mod TestLaws
 pub mod MatrixTests
 pub mod MatrixRecord
+pub mod MatrixBytes

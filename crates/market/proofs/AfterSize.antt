@@ -17,9 +17,9 @@ use Rattle.layout_rules.proofs.FirstRecords.{length-first, getD-first, first-is
 use Rattle.market_rules.specs.declared.MarketAnswer.{MarketAnswer}
 use Rattle.market_rules.specs.Lines.{lines, linePlace}
 use Rattle.market_rules.specs.Forms.{isEntry, entryValue}
-use Rattle.market_rules.specs.Market.{sizeIndex, fileRows, fileColumns, entryCount, entryLines, entryPlace, entry, leadingEntryCount, twosComplement, entryIndex, coefficientWords, marketRecord, marketRefused, marketAccepted, entriesAnswer}
+use Rattle.market_rules.specs.Market.{sizeIndex, fileRows, fileColumns, entryCount, entryLines, entryPlace, fileEntry, leadingEntryCount, twosComplement, entryIndex, coefficientWords, marketRecord, marketRefused, marketAccepted, entriesAnswer}
 use Rattle.market_rules.proofs.LineLaws.{lines-from, place-from, place-there, place-missing, leading-within}
-use Rattle.market_rules.proofs.RecordOf.{within-number}
+use Rattle.market_rules.proofs.MarketRecord.{within-number}
 use Rattle.market.specs.declared.Entries.{Entries}
 use Rattle.market.specs.Parts.{EntriesRead, recordOf, recordAnswer, recordBuffer, entriesBuffer}
 
@@ -130,13 +130,13 @@ module _ (text : List ℕ) (start : ℕ) (starts : start ≡ entryPlace text 0) 
       same-words =
           let count : m * n ≡ entryCount text = ap₂ _*_ rows columns in
           first-is (λ k. getD words (entryIndex m n k) 0) (m * n) (coefficientWords text)
-          (length-first (λ k. twosComplement (entry text (entryIndex (fileRows text) (fileColumns text) k))) (entryCount text) ∙ sym count)
+          (length-first (λ k. twosComplement (fileEntry text (entryIndex (fileRows text) (fileColumns text) k))) (entryCount text) ∙ sym count)
           (λ k d h.
           let there = within-number m n k (limits .columns-least) h in
           is .told (entryIndex m n k) (omega (arith, there, whole, count))
           ∙ ap (λ (ls : List (List ℕ)). twosComplement (entryValue (getD ls (entryIndex m n k) []))) lines-rest
-          ∙ ap₂ (λ (x y : ℕ). twosComplement (entry text (entryIndex x y k))) rows columns
-          ∙ sym (getD-first (λ k. twosComplement (entry text (entryIndex (fileRows text) (fileColumns text) k))) (entryCount text) k d (omega (arith, count))))
+          ∙ ap₂ (λ (x y : ℕ). twosComplement (fileEntry text (entryIndex x y k))) rows columns
+          ∙ sym (getD-first (λ k. twosComplement (fileEntry text (entryIndex (fileRows text) (fileColumns text) k))) (entryCount text) k d (omega (arith, count))))
 
       same-record : recordOf m n words ≡ marketRecord text
       unfolding recordOf marketRecord

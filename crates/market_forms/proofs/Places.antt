@@ -12,21 +12,16 @@ use lib.IntN.{pos, negℤ}
 use lib.ListN.{length, getD, drop, length-drop}
 use lib.Seq.{drop-drop, getD-drop}
 use borrow.Author.Tests.{ltb-true, lt-ltb, eqb-true, eq-eqb}
+use Rattle.integers.proofs.Truth.{same-truth}
 use Rattle.text.specs.Decimal.{decimalValue}
 use Rattle.market_rules.specs.Lines.{lineFeed}
-use Rattle.market_rules.specs.Forms.{blank, minus, same, isDigit, leadingDigits, nonempty, rowDigits, columnDigits, isSize, isNegative, entryDigits, isEntry, entryValue}
+use Rattle.market_rules.specs.Forms.{blank, minusSign, same, isDigit, leadingDigits, nonempty, rowDigits, columnDigits, isSize, isNegative, entryDigits, isEntry, entryValue}
 use Rattle.market_rules.specs.Market.{twosComplement}
 use Rattle.market_forms.specs.Ends.{endsNumber}
 
--- two tests that pass together are one
-both-ways : (p q : Bool) → (p ≡ true → q ≡ true) → (q ≡ true → p ≡ true) → p ≡ q
-both-ways true q there back = sym (there refl)
-both-ways false true there back = back refl
-both-ways false false there back = refl
-
 -- the last byte's place
 pub last-place : (long end : ℕ) → end < long → eqb (long - 1) end ≡ eqb long (end + 1)
-last-place long end within = both-ways _ _ (λ e. omega (arith, eqb-true, eq-eqb)) (λ e. omega (arith, eqb-true, eq-eqb))
+last-place long end within = same-truth _ _ (λ e. omega (arith, eqb-true, eq-eqb)) (λ e. omega (arith, eqb-true, eq-eqb))
 
 -- ---- digits, and what stands behind them
 
@@ -59,14 +54,14 @@ feed-at : (bytes : List ℕ) (end : ℕ) → same (drop end bytes) (lineFeed ∷
 feed-at bytes end =
     same-feed (drop end bytes)
     ∙ ap₂ _&&_ (ap (λ (b : ℕ). eqb b lineFeed) (first-behind bytes end))
-    (both-ways _ _ (λ e. omega (arith, eqb-true, eq-eqb, length-drop end bytes)) (λ e. omega (arith, eqb-true, eq-eqb, length-drop end bytes)))
+    (same-truth _ _ (λ e. omega (arith, eqb-true, eq-eqb, length-drop end bytes)) (λ e. omega (arith, eqb-true, eq-eqb, length-drop end bytes)))
 
 -- the digits from a place on are some, and a line feed behind them ends the line
 number-places : (bytes : List ℕ) (from : ℕ) → let digits = leadingDigits (drop from bytes) in
     nonempty digits && same (drop from bytes) (digits ++ (lineFeed ∷ [])) ≡ endsNumber bytes from (from + length digits)
 number-places bytes from =
     let count : ℕ = length (leadingDigits (drop from bytes)) in
-    let counted : ltb 0 count ≡ ltb from (from + count) = both-ways _ _ (λ e. omega (arith, ltb-true, lt-ltb)) (λ e. omega (arith, ltb-true, lt-ltb)) in
+    let counted : ltb 0 count ≡ ltb from (from + count) = same-truth _ _ (λ e. omega (arith, ltb-true, lt-ltb)) (λ e. omega (arith, ltb-true, lt-ltb)) in
     ap₂ _&&_ counted
     (same-behind (drop from bytes) (lineFeed ∷ [])
     ∙ ap (λ (rest : List ℕ). same rest (lineFeed ∷ [])) (drop-drop count from bytes)
@@ -113,7 +108,7 @@ size-places bytes place end digits more =
 -- what follows the optional minus begins within the line
 pub sign-within : (bytes : List ℕ) → cond (isNegative bytes) 1 0 ≤ length bytes
 sign-within [] = omega arith
-sign-within (b ∷ bytes) = go (eqb b minus)
+sign-within (b ∷ bytes) = go (eqb b minusSign)
   where
     go : (t : Bool) → cond t 1 0 ≤ suc (length bytes)
     go true = omega arith

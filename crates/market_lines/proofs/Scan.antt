@@ -2,14 +2,14 @@
 -- Assumes nothing.
 use Prim.Native.Nat.{ℕ, suc, _+_, _*_, _-_, _≤_, _<_, min}
 use mathlib.Core.Path.{_≡_, refl, sym, ap, _∙_}
-use mathlib.Core.Bool.{Bool, true, false, _&&_, true≢false}
+use mathlib.Core.Bool.{Bool, true, false, _&&_}
 use mathlib.Core.Logic.{_⊎_, inl, inr, ⊎-elim}
 use mathlib.Core.List.{List, [], _∷_}
 use native.Mathlib.Omega.{arith}
-use lib.Dec.{leb, eqb}
+use lib.Dec.{eqb}
 use lib.ListN.{length, getD, drop, length-drop, drop-of-length-le}
 use lib.Seq.{drop-cons, take-length}
-use borrow.Author.Tests.{leb-true, ne-eqb, eq-eqb}
+use borrow.Author.Tests.{ne-eqb, eq-eqb}
 use Rattle.bytes.specs.Bytes.{indexOf, indexAfter, slice}
 use Rattle.text.specs.Decimal.{valueBehind, decimalValue}
 use Rattle.market_rules.specs.Lines.{lineFeed, beforeLines, lines, line}
@@ -123,14 +123,6 @@ module _ (bytes : List ℕ) (i : ℕ) where
         ap leadingDigits (drop-cons bytes i 0 more)
         ∙ leading-one (getD bytes i 0) (drop (suc i) bytes) e
         ∙ ap (λ (j : ℕ). getD bytes i 0 ∷ leadingDigits (drop j bytes)) next
-
-    -- the digit has a value, and goes in behind those before it
-    pub digit-range : isDigit (getD bytes i 0) ≡ true → (48 ≤ getD bytes i 0) × (getD bytes i 0 ≤ 57)
-    digit-range e = go (leb 48 (getD bytes i 0)) refl e
-      where
-        go : (t : Bool) → leb 48 (getD bytes i 0) ≡ t → (t && leb (getD bytes i 0) 57) ≡ true → (48 ≤ getD bytes i 0) × (getD bytes i 0 ≤ 57)
-        go true l h = (leb-true 48 (getD bytes i 0) l, leb-true (getD bytes i 0) 57 h)
-        go false l h = absurd (true≢false (sym h))
 
 -- digits read from one place to another: those left say the rest
 pub record DigitsFrom (bytes : List ℕ) (from end value : ℕ) : Type 0 where

@@ -13,7 +13,7 @@ use lib.Seq.{append-snoc, split-at, getD-take, getD-at, length-take-le}
 use borrow.Author.Tests.{eqb-false, ne-eqb}
 use Rattle.netlist_rules.proofs.Conditions.{and-says, same-says}
 use Rattle.market_rules.specs.Lines.{lineFeed, beforeLines, lines, line}
-use Rattle.market_rules.specs.Forms.{blank, percent, minus, firstLine, isComment}
+use Rattle.market_rules.specs.Forms.{blank, percent, minusSign, firstLine, isComment}
 use Rattle.market_rules.specs.Market.{commentCount}
 use Rattle.market_rules.specs.Tests.{Says, SizeLine, SignedLine}
 use Rattle.market_rules.specs.File.{Comment}
@@ -162,7 +162,7 @@ pub entry-is-line : (bytes : List ℕ) (z : ℤ) → SignedLine bytes z → IsLi
 entry-is-line bytes z l =
     let within = digits-within (l .digits) (l .value) (l .its-value) in
     ⊎-elim (λ e. record { words = l .digits; its-bytes = e .0; one-line = within })
-    (λ e. record { words = minus ∷ l .digits; its-bytes = e .0; one-line = byte-within minus (l .digits) (λ e. omega arith) within }) (l .its-sign)
+    (λ e. record { words = minusSign ∷ l .digits; its-bytes = e .0; one-line = byte-within minusSign (l .digits) (λ e. omega arith) within }) (l .its-sign)
 
 pub comment-is-line : (bytes : List ℕ) → Comment bytes → IsLine bytes
 comment-is-line bytes c = record { words = percent ∷ c .rest; its-bytes = c .its-bytes; one-line = byte-within percent (c .rest) (λ e. omega arith) (c .one-line) }

@@ -18,13 +18,14 @@ use borrow.Author.Tests.{le-ltb}
 use Rattle.limits.specs.Size.{SizeLimits, sizeOutside}
 use Rattle.limits.proofs.Size.{size-within}
 use Rattle.layout_rules.specs.Matrix.{rows, columns, longestRecord}
+use Rattle.layout_rules.proofs.MatrixBytes.{parts-within, matrix-determines}
 use Rattle.layout_rules.proofs.MatrixRecord.{record-fits}
 use Rattle.layout_rules.proofs.MatrixRows.{matrix-at, coefficient-range}
 use Rattle.bank_rules.specs.Claim.{MatrixWithinLimits}
 use Rattle.market_rules.specs.declared.MarketAnswer.{MarketAnswer}
 use Rattle.market_rules.specs.Lines.{lines, line}
 use Rattle.market_rules.specs.Forms.{same, firstLine, isComment, isSize, sizeRows, sizeColumns, entryValue}
-use Rattle.market_rules.specs.Market.{commentCount, sizeIndex, sizePlace, fileRows, fileColumns, entryCount, entryLines, entryPlace, entry, leadingEntryCount, marketRecord, marketRefused, marketAccepted, entriesAnswer, marketAnswer, marketBuffer}
+use Rattle.market_rules.specs.Market.{commentCount, sizeIndex, sizePlace, fileRows, fileColumns, entryCount, entryLines, entryPlace, fileEntry, leadingEntryCount, marketRecord, marketRefused, marketAccepted, entriesAnswer, marketAnswer, marketBuffer}
 use Rattle.market_rules.specs.Tests.{SizeLine, EntryLine}
 use Rattle.market_rules.specs.File.{Comment, FileOf}
 use Rattle.market_rules.proofs.LineLaws.{leading-within, leading-passes}
@@ -32,7 +33,7 @@ use Rattle.market_rules.proofs.FormLaws.{size-line, entry-line}
 use Rattle.market_rules.proofs.MarketTests.{market-passes}
 use Rattle.market_rules.proofs.Spelling.{size-said, entry-said}
 use Rattle.market_rules.proofs.FileLines.{file-lines, lines-file, line-whole, first-is-line, line-some, Whole, size-is-line, entry-is-line, comment-is-line, comment-tested, tested-comment, size-no-comment, comments-counted}
-use Rattle.market_rules.proofs.RecordOf.{matrix-determines, parts-within, columnEntry, entries-determine, AcceptedText, tests-passed, market-length, market-bytes, market-record, market-entry}
+use Rattle.market_rules.proofs.MarketRecord.{columnEntry, entries-determine, AcceptedText, tests-passed, market-length, market-bytes, market-record, market-entry}
 
 -- ---- an accepted text is one that is accepted into every buffer that the longest record fits
 
@@ -99,7 +100,7 @@ module _ (text bytes : List ℕ) (f : FileOf text bytes) where
   file-count : entryCount text ≡ m * n
   file-count = ap₂ _*_ file-rows file-columns
 
-  file-entry : (k : ℕ) → k < m * n → entry text k ≡ columnEntry bytes k
+  file-entry : (k : ℕ) → k < m * n → fileEntry text k ≡ columnEntry bytes k
   file-entry k h =
       ap (λ (ls : List (List ℕ)). entryValue (getD ls k [])) entries-there ∙ entry-line (getD (f .entries) k []) (columnEntry bytes k) (said-entry k h) .1
 
@@ -169,7 +170,7 @@ module _ (text : List ℕ) (a : AcceptedText text) where
     each-comment = accepted-comment;
     its-size = size-said (line text (sizeIndex text)) (fileRows text) (fileColumns text) .0 (a .its-size);
     all-entries = a .all-entries;
-    each-entry = λ k h. rw (market-entry text a k h) (entry-said (getD (entryLines text) k []) (entry text k) .0 (a .each-entry k h .integer));
+    each-entry = λ k h. rw (market-entry text a k h) (entry-said (getD (entryLines text) k []) (fileEntry text k) .0 (a .each-entry k h .integer));
   }
 
 -- ---- a text and the matrix of which it is a file

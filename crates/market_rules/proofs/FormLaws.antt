@@ -13,22 +13,22 @@ use lib.ListN.{length, getD, drop, List·getD-append}
 use lib.Seq.{drop-append-add}
 use lib.Signed.{_≤ℤ_}
 use borrow.Author.Tests.{eqb-true, eq-eqb, ne-eqb}
-use Rattle.integers.proofs.Expression.{nat, minus as opposite, at-most, at-most-parts}
+use Rattle.integers.proofs.Expression.{nat, minus, at-most, at-most-parts}
 use Rattle.netlist_rules.proofs.Conditions.{and-says, at-most-says, below-says}
 use Rattle.text.specs.Decimal.{digitByte, decimalValue}
 use Rattle.market_rules.specs.Lines.{lineFeed}
-use Rattle.market_rules.specs.Forms.{blank, minus, same, isDigit, leadingDigits, nonempty, rowDigits, columnDigits, isSize, sizeRows, sizeColumns, isNegative, isEntry, entryValue}
+use Rattle.market_rules.specs.Forms.{blank, minusSign, same, isDigit, leadingDigits, nonempty, rowDigits, columnDigits, isSize, sizeRows, sizeColumns, isNegative, isEntry, entryValue}
 use Rattle.market_rules.specs.Tests.{Says, SizeLine, EntryLine}
 
 -- ---- the same bytes
 
-pub same-says : (xs ys : List ℕ) → (same xs ys ≡ true) ↔ (xs ≡ ys)
+pub same-is-equal : (xs ys : List ℕ) → (same xs ys ≡ true) ↔ (xs ≡ ys)
 unfolding same
-same-says [] [] = (λ e. refl, λ e. refl)
-same-says [] (y ∷ ys) = (λ e. absurd (true≢false (sym e)), λ e. absurd (omega (arith, ap length e)))
-same-says (x ∷ xs) [] = (λ e. absurd (true≢false (sym e)), λ e. absurd (omega (arith, ap length e)))
-same-says (x ∷ xs) (y ∷ ys) =
-    let both = and-says (eqb x y) (same xs ys) (eqb-true x y, eq-eqb x y) (same-says xs ys) in
+same-is-equal [] [] = (λ e. refl, λ e. refl)
+same-is-equal [] (y ∷ ys) = (λ e. absurd (true≢false (sym e)), λ e. absurd (omega (arith, ap length e)))
+same-is-equal (x ∷ xs) [] = (λ e. absurd (true≢false (sym e)), λ e. absurd (omega (arith, ap length e)))
+same-is-equal (x ∷ xs) (y ∷ ys) =
+    let both = and-says (eqb x y) (same xs ys) (eqb-true x y, eq-eqb x y) (same-is-equal xs ys) in
     (λ e. let p = both .0 e in ap₂ _∷_ (p .0) (p .1), λ e. both .1 (cc, cc))
 
 -- ---- digits
@@ -36,7 +36,7 @@ same-says (x ∷ xs) (y ∷ ys) =
 abbrev pub Digits : List ℕ → Type 0
 Digits ds = (i : ℕ) → i < length ds → (digitByte 0 ≤ getD ds i 0) × (getD ds i 0 ≤ digitByte 9)
 
-digit-says : (b : ℕ) → (isDigit b ≡ true) ↔ ((digitByte 0 ≤ b) × (b ≤ digitByte 9))
+pub digit-says : (b : ℕ) → (isDigit b ≡ true) ↔ ((digitByte 0 ≤ b) × (b ≤ digitByte 9))
 digit-says b = and-says (leb (digitByte 0) b) (leb b (digitByte 9)) (at-most-says (digitByte 0) b) (at-most-says b (digitByte 9))
 
 pub leading-all : (bytes : List ℕ) → Digits (leadingDigits bytes)
@@ -75,7 +75,7 @@ module _ (bytes : List ℕ) where
   unfolding isSize
   size-says =
       and-says (nonempty (rowDigits bytes)) (nonempty (columnDigits bytes) && same bytes spelled) (nonempty-says (rowDigits bytes))
-      (and-says (nonempty (columnDigits bytes)) (same bytes spelled) (nonempty-says (columnDigits bytes)) (same-says bytes spelled))
+      (and-says (nonempty (columnDigits bytes)) (same bytes spelled) (nonempty-says (columnDigits bytes)) (same-is-equal bytes spelled))
 
   pub line-size : isSize bytes ≡ true → SizeLine bytes (sizeRows bytes) (sizeColumns bytes)
   line-size e =
@@ -114,17 +114,17 @@ integer-of t value = cond t (negℤ (pos value)) (pos value)
 
 in-range : (t : Bool) (value : ℕ) → (value ≤ farthest t) ↔ ((negsuc 32767 ≤ℤ integer-of t value) × (integer-of t value ≤ℤ pos 32767))
 in-range true v = (
-  λ h. (at-most (opposite (nat 32768)) (opposite (nat v)) (omega arith), at-most (opposite (nat v)) (nat 32767) (omega arith)),
-  λ p. omega (arith, at-most-parts (opposite (nat 32768)) (opposite (nat v)) (p .0)),
+  λ h. (at-most (minus (nat 32768)) (minus (nat v)) (omega arith), at-most (minus (nat v)) (nat 32767) (omega arith)),
+  λ p. omega (arith, at-most-parts (minus (nat 32768)) (minus (nat v)) (p .0)),
 )
 in-range false v = (
-  λ h. (at-most (opposite (nat 32768)) (nat v) (omega arith), at-most (nat v) (nat 32767) (omega arith)),
+  λ h. (at-most (minus (nat 32768)) (nat v) (omega arith), at-most (nat v) (nat 32767) (omega arith)),
   λ p. omega (arith, at-most-parts (nat v) (nat 32767) (p .1)),
 )
 
-minus-first : (bytes : List ℕ) → isNegative bytes ≡ true → bytes ≡ minus ∷ drop 1 bytes
+minus-first : (bytes : List ℕ) → isNegative bytes ≡ true → bytes ≡ minusSign ∷ drop 1 bytes
 minus-first [] e = absurd (true≢false (sym e))
-minus-first (b ∷ bytes) e = ap (λ (x : ℕ). x ∷ bytes) (eqb-true b minus e)
+minus-first (b ∷ bytes) e = ap (λ (x : ℕ). x ∷ bytes) (eqb-true b minusSign e)
 
 module _ (bytes : List ℕ) where
   abbrev behind-sign : Bool → List ℕ
@@ -135,7 +135,7 @@ module _ (bytes : List ℕ) where
 
   -- a signed line's sign
   abbrev Sign : List ℕ → ℕ → ℤ → Type 0
-  Sign digits value z = ((bytes ≡ ended digits) × (z ≡ pos value)) ⊎ ((bytes ≡ minus ∷ ended digits) × (z ≡ negℤ (pos value)))
+  Sign digits value z = ((bytes ≡ ended digits) × (z ≡ pos value)) ⊎ ((bytes ≡ minusSign ∷ ended digits) × (z ≡ negℤ (pos value)))
 
   entry-says : (t : Bool) → isNegative bytes ≡ t
       → (isEntry bytes ≡ true)
@@ -146,7 +146,7 @@ module _ (bytes : List ℕ) where
       let near = leb (decimalValue (digits-behind t)) (farthest t) in
       rw e
       (and-says (nonempty (digits-behind t)) (ends && near) (nonempty-says (digits-behind t))
-      (and-says ends near (same-says (behind-sign t) (ended (digits-behind t))) (at-most-says (decimalValue (digits-behind t)) (farthest t))))
+      (and-says ends near (same-is-equal (behind-sign t) (ended (digits-behind t))) (at-most-says (decimalValue (digits-behind t)) (farthest t))))
 
   entry-is : (t : Bool) → isNegative bytes ≡ t → entryValue bytes ≡ integer-of t (decimalValue (digits-behind t))
   unfolding entryValue
@@ -156,7 +156,7 @@ module _ (bytes : List ℕ) where
   line-entry e = by-sign (isNegative bytes) refl
     where
       sign : (t : Bool) (ds : List ℕ) (v : ℕ) → isNegative bytes ≡ t → behind-sign t ≡ ended ds → Sign ds v (integer-of t v)
-      sign true ds v n e = inr (minus-first bytes n ∙ ap (λ (l : List ℕ). minus ∷ l) e, refl)
+      sign true ds v n e = inr (minus-first bytes n ∙ ap (λ (l : List ℕ). minusSign ∷ l) e, refl)
       sign false ds v n e = inl (e, refl)
 
       by-sign : (t : Bool) → isNegative bytes ≡ t → EntryLine bytes (entryValue bytes)
@@ -196,5 +196,5 @@ module _ (bytes : List ℕ) where
       go (inl p) =
           let first = says .decimal-digits 0 (says .one-or-more) in
           let digit : getD bytes 0 0 ≡ getD ds 0 0 = ap (λ (l : List ℕ). getD l 0 0) (p .0) ∙ List·getD-append ds (lineFeed ∷ []) 0 0 (says .one-or-more) in
-          by-sign false (ne-eqb (getD bytes 0 0) minus (λ m. omega arith)) (p .0) (p .1)
-      go (inr p) = by-sign true (eq-eqb (getD bytes 0 0) minus (ap (λ (l : List ℕ). getD l 0 0) (p .0))) (ap (drop 1) (p .0)) (p .1)
+          by-sign false (ne-eqb (getD bytes 0 0) minusSign (λ m. omega arith)) (p .0) (p .1)
+      go (inr p) = by-sign true (eq-eqb (getD bytes 0 0) minusSign (ap (λ (l : List ℕ). getD l 0 0) (p .0))) (ap (drop 1) (p .0)) (p .1)

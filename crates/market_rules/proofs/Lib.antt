@@ -3,6 +3,6 @@ pub mod FormLaws
 pub mod MarketTests
 pub mod Spelling
 pub mod FileLines
-pub mod RecordOf
+pub mod MarketRecord
 pub mod Files
 pub mod Example

@@ -20,7 +20,7 @@ use Rattle.market_rules.specs.Forms.{same, firstLine, isSize, isEntry, e
 use Rattle.market_rules.specs.Market.{sizeIndex, sizePlace, fileRows, fileColumns, entryCount, entryLines, entryPlace, marketRecord, marketRefused, marketAccepted, leadingEntryCount, entriesAnswer, marketAnswer}
 use Rattle.market_rules.specs.Tests.{SizeLine, EntryLine, entryTests, marketTests}
 use Rattle.market_rules.proofs.LineLaws.{leading-passes, leading-stops}
-use Rattle.market_rules.proofs.FormLaws.{same-says, line-size, size-line, line-entry, entry-line}
+use Rattle.market_rules.proofs.FormLaws.{same-is-equal, line-size, size-line, line-entry, entry-line}
 
 -- ---- 19, for any lines and any places of them
 
@@ -118,7 +118,7 @@ module _ (text : List ℕ) (room : ℕ) where
   pub market-decided : Decided (marketTests text room) (marketAnswer text room) accepted marketRefused
   unfolding marketTests marketAnswer
   market-decided =
-      behind-test from-size (same (line text 0) firstLine) (line text 0 ≡ firstLine) 17 0 _ accepted marketRefused (omega arith) (same-says (line text 0) firstLine)
+      behind-test from-size (same (line text 0) firstLine) (line text 0 ≡ firstLine) 17 0 _ accepted marketRefused (omega arith) (same-is-equal (line text 0) firstLine)
       (λ f. behind-test from-limits (isSize its-size) (SizeLine its-size m n) 17 (sizePlace text) _ accepted marketRefused (omega arith)
       (line-size its-size, λ l. size-line its-size m n l .0)
       (λ s. behind-fault from-entries (sizeOutside m n) (SizeLimits m n) 4 (sizePlace text) (entriesAnswer text room) accepted marketRefused (omega arith)

@@ -12,7 +12,7 @@ use lib.Seq.{append-snoc}
 use Rattle.text.specs.Decimal.{digitByte, number, valueBehind, decimalValue}
 use Rattle.text.proofs.Decimal.{number-small, number-large, number-back, some-digit}
 use Rattle.market_rules.specs.Lines.{lineFeed}
-use Rattle.market_rules.specs.Forms.{minus}
+use Rattle.market_rules.specs.Forms.{minusSign}
 use Rattle.market_rules.specs.Tests.{Says, SizeLine, SignedLine}
 use Rattle.market_rules.specs.File.{Spells, SizeSpelled, EntrySpelled}
 use Rattle.market_rules.proofs.FormLaws.{Digits}
@@ -150,7 +150,7 @@ entry-said bytes z = (there, back)
           its-bytes = e .0;
         })
         (λ e. record {
-          spelled = minus ∷ l .digits;
+          spelled = minusSign ∷ l .digits;
           its-integer = record { digits = l .digits; value = l .value; its-value = its; its-sign = inr (refl, e .1) };
           its-bytes = e .0;
         })
@@ -165,5 +165,5 @@ entry-said bytes z = (there, back)
           digits = i .digits;
           value = i .value;
           its-value = spelled-says (i .digits) (i .value) .1 (i .its-value);
-          its-sign = ⊎-elim (λ p. inl (ended (i .digits) (p .0), p .1)) (λ p. inr (ended (minus ∷ i .digits) (p .0), p .1)) (i .its-sign);
+          its-sign = ⊎-elim (λ p. inl (ended (i .digits) (p .0), p .1)) (λ p. inr (ended (minusSign ∷ i .digits) (p .0), p .1)) (i .its-sign);
         }

@@ -10,7 +10,7 @@ use lib.ListN.{length, getD, replicate}
 use Rattle.layout_rules.specs.Matrix.{rows, columns, matrix, IsMatrixRecord}
 use Rattle.text.specs.Decimal.{digitByte, number}
 use Rattle.market_rules.specs.Lines.{lineFeed}
-use Rattle.market_rules.specs.Forms.{blank, percent, minus, firstLine}
+use Rattle.market_rules.specs.Forms.{blank, percent, minusSign, firstLine}
 
 -- any number of zeros, then the number
 pub record Spells (bytes : List ℕ) (value : ℕ) : Type 0 where
@@ -22,7 +22,7 @@ pub record SpellsSigned (bytes : List ℕ) (z : ℤ) : Type 0 where
   pub digits : List ℕ
   pub value : ℕ
   pub its-value : Spells digits value
-  pub its-sign : ((bytes ≡ digits) × (z ≡ pos value)) ⊎ ((bytes ≡ minus ∷ digits) × (z ≡ negℤ (pos value)))
+  pub its-sign : ((bytes ≡ digits) × (z ≡ pos value)) ⊎ ((bytes ≡ minusSign ∷ digits) × (z ≡ negℤ (pos value)))
 
 -- a comment: %, bytes without a line feed, a line feed
 pub record Comment (bytes : List ℕ) : Type 0 where

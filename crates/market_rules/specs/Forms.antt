@@ -18,8 +18,8 @@ blank = 32
 abbrev pub percent : ℕ
 percent = 37
 
-abbrev pub minus : ℕ
-minus = 45
+abbrev pub minusSign : ℕ
+minusSign = 45
 
 -- the same bytes
 unfoldable pub same : List ℕ → List ℕ → Bool
@@ -74,7 +74,7 @@ sizeColumns bytes = decimalValue (columnDigits bytes)
 -- ---- entries: "one entry a line, column by column, with an optional minus"
 
 abbrev pub isNegative : List ℕ → Bool
-isNegative bytes = eqb (getD bytes 0 0) minus
+isNegative bytes = eqb (getD bytes 0 0) minusSign
 
 -- what follows the optional minus
 abbrev pub unsigned : List ℕ → List ℕ

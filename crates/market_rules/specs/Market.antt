@@ -43,8 +43,8 @@ entryLines text = drop (suc (sizeIndex text)) (lines text)
 abbrev pub entryPlace : List ℕ → ℕ → ℕ
 entryPlace text k = linePlace text (suc (sizeIndex text) + k)
 
-abbrev pub entry : List ℕ → ℕ → ℤ
-entry text k = entryValue (getD (entryLines text) k [])
+abbrev pub fileEntry : List ℕ → ℕ → ℤ
+fileEntry text k = entryValue (getD (entryLines text) k [])
 
 -- ---- the record
 
@@ -59,7 +59,7 @@ abbrev pub entryIndex : ℕ → ℕ → ℕ → ℕ
 entryIndex m n k = k % n * m + k / n
 
 abbrev pub coefficientWords : List ℕ → List ℕ
-coefficientWords text = firstRecords (λ k. twosComplement (entry text (entryIndex (fileRows text) (fileColumns text) k))) (entryCount text)
+coefficientWords text = firstRecords (λ k. twosComplement (fileEntry text (entryIndex (fileRows text) (fileColumns text) k))) (entryCount text)
 
 unfoldable pub marketRecord : List ℕ → List ℕ
 marketRecord text = matrixRecord (fileRows text) (fileColumns text) (coefficientWords text)

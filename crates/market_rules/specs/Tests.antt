@@ -13,8 +13,8 @@ use Rattle.limits.specs.Size.{SizeLimits}
 use Rattle.layout_rules.specs.Tests.{Test, tested, firstTests}
 use Rattle.text.specs.Decimal.{digitByte, decimalValue}
 use Rattle.market_rules.specs.Lines.{lineFeed, line}
-use Rattle.market_rules.specs.Forms.{blank, minus, firstLine}
-use Rattle.market_rules.specs.Market.{sizeIndex, sizePlace, fileRows, fileColumns, entryCount, entryLines, entryPlace, entry, marketRecord}
+use Rattle.market_rules.specs.Forms.{blank, minusSign, firstLine}
+use Rattle.market_rules.specs.Market.{sizeIndex, sizePlace, fileRows, fileColumns, entryCount, entryLines, entryPlace, fileEntry, marketRecord}
 
 -- "An integer is one or more decimal digits, leading zeros allowed."
 pub record Says (digits : List ℕ) (value : ℕ) : Type 0 where
@@ -35,7 +35,7 @@ pub record SignedLine (bytes : List ℕ) (z : ℤ) : Type 0 where
   pub digits : List ℕ
   pub value : ℕ
   pub its-value : Says digits value
-  pub its-sign : ((bytes ≡ digits ++ (lineFeed ∷ [])) × (z ≡ pos value)) ⊎ ((bytes ≡ minus ∷ (digits ++ (lineFeed ∷ []))) × (z ≡ negℤ (pos value)))
+  pub its-sign : ((bytes ≡ digits ++ (lineFeed ∷ [])) × (z ≡ pos value)) ⊎ ((bytes ≡ minusSign ∷ (digits ++ (lineFeed ∷ []))) × (z ≡ negℤ (pos value)))
 
 -- "an integer from −32,768 to 32,767"
 pub record EntryLine (bytes : List ℕ) (z : ℤ) : Type 0 where
@@ -45,7 +45,7 @@ pub record EntryLine (bytes : List ℕ) (z : ℤ) : Type 0 where
 
 -- 19: one of the lines is not such an integer; a line that is missing is 18's
 abbrev pub entryTests : List ℕ → ℕ → List Test
-entryTests text k = tested 19 (entryPlace text k) (k < length (entryLines text) → EntryLine (getD (entryLines text) k []) (entry text k)) ∷ []
+entryTests text k = tested 19 (entryPlace text k) (k < length (entryLines text) → EntryLine (getD (entryLines text) k []) (fileEntry text k)) ∷ []
 
 -- 17: the first line or the size line is missing or has another form; 4: m or n outside 1 to 8; 19 line by line; 18: the entries are too
 -- few or too many; 6: the output buffer, of so many bytes, is shorter than the record

@@ -147,6 +147,24 @@ fn numbers_of_run() {
     met.assert_exactly("run", &[0, 7, 8, 9, 10, 11, 12, 15, 16], 100);
 }
 
+/// A call that writes into a buffer of so many bytes and has the place and the bytes written through references, beside the reference's.
+fn compare_written(
+    met: &mut Met,
+    room: usize,
+    call: impl FnOnce(&mut [u8], &mut usize, &mut usize) -> u8,
+    reference: impl FnOnce(&mut [u8]) -> Result<usize, reference::Refusal>,
+) {
+    let mut buffer = vec![0; room];
+    let (mut place, mut written) = (77, 77);
+    let number = call(&mut buffer, &mut place, &mut written);
+    met.count(number);
+    let mut contents = vec![0; room];
+    let expected = reference(&mut contents);
+    assert_eq!(buffer, contents);
+    assert_eq!((number, place), returned(&expected));
+    assert_eq!(written, expected.unwrap_or(0));
+}
+
 #[test]
 fn numbers_of_generate() {
     let mut met = Met::default();
@@ -154,26 +172,14 @@ fn numbers_of_generate() {
         let (m, n) = (random.between(0, 9) as u8, random.between(0, 9) as u8);
         let seed = random.number() as u32;
         let room = random.between(0, 140);
-        let mut buffer = vec![0; room];
-        let (mut place, mut written) = (77, 77);
-        // SAFETY: the slice is valid for its length, and the numbers are distinct.
-        let number = unsafe {
-            zaatarloft_raw_generate(
-                m,
-                n,
-                seed,
-                buffer.as_mut_ptr(),
-                buffer.len(),
-                &mut place,
-                &mut written,
-            )
+        let call = |buffer: &mut [u8], place: &mut usize, written: &mut usize| {
+            let (start, length) = (buffer.as_mut_ptr(), buffer.len());
+            // SAFETY: the slice is valid for its length, and the numbers are distinct.
+            unsafe { zaatarloft_raw_generate(m, n, seed, start, length, place, written) }
         };
-        met.count(number);
-        let mut contents = vec![0; room];
-        let expected = reference::generate(m, n, seed, &mut contents);
-        assert_eq!(buffer, contents);
-        assert_eq!((number, place), returned(&expected));
-        assert_eq!(written, expected.unwrap_or(0));
+        compare_written(&mut met, room, call, |buffer| {
+            reference::generate(m, n, seed, buffer)
+        });
     });
     met.assert_exactly("generate", &[0, 4, 6], 100);
 }
@@ -185,25 +191,17 @@ fn numbers_of_read_matrix_market() {
         let matrix = any_matrix(random, 3, 3);
         let text = damaged_market_file(random, &matrix);
         let room = random.between(0, 30);
-        let mut buffer = vec![0; room];
-        let (mut place, mut written) = (77, 77);
-        // SAFETY: both slices are valid for their lengths and distinct, as are the numbers.
-        let number = unsafe {
-            zaatarloft_raw_read_matrix_market(
-                text.as_ptr(),
-                text.len(),
-                buffer.as_mut_ptr(),
-                buffer.len(),
-                &mut place,
-                &mut written,
-            )
+        let call = |buffer: &mut [u8], place: &mut usize, written: &mut usize| {
+            let (file, file_length) = (text.as_ptr(), text.len());
+            let (start, length) = (buffer.as_mut_ptr(), buffer.len());
+            // SAFETY: both slices are valid for their lengths and distinct, as are the numbers.
+            unsafe {
+                zaatarloft_raw_read_matrix_market(file, file_length, start, length, place, written)
+            }
         };
-        met.count(number);
-        let mut contents = vec![0; room];
-        let expected = reference::read_matrix_market(&text, &mut contents);
-        assert_eq!(buffer, contents);
-        assert_eq!((number, place), returned(&expected));
-        assert_eq!(written, expected.unwrap_or(0));
+        compare_written(&mut met, room, call, |buffer| {
+            reference::read_matrix_market(&text, buffer)
+        });
     });
     met.assert_exactly("read_matrix_market", &[0, 4, 6, 17, 18, 19], 500);
 }

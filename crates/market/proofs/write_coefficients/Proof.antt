@@ -9,7 +9,7 @@ use Rattle.layout_rules.specs.Matrix.{coefficientPlace}
 use Rattle.layout_rules.specs.Places.{firstRecords}
 use Rattle.layout_rules.specs.Written.{written}
 use Rattle.market_rules.specs.Market.{entryIndex}
-use Rattle.market_rules.proofs.RecordOf.{within-number}
+use Rattle.market_rules.proofs.MarketRecord.{within-number}
 use Rattle.market.proofs.Coefficients.{coefficients-none, coefficient-length, coefficient-next}
 use Rattle.market.proofs.write_coefficients.Statement.{statement}
 use Rattle.market.proofs.write_coefficients.Tie as tie

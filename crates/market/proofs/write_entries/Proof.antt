@@ -80,10 +80,10 @@ returns c =
     let refused : ℕ → MarketAnswer = λ r. marketRefused r (start (s e) + e .read-entries .result .bytes) in
     ⊎-elim
     (λ t.
-    let both = no-entry (text (s e)) (start (s e)) (starts (s e)) (s e .args .buffer .now) (words e) (e .read-entries .result) (read e) (all e) (within (s e)) (left .if1 .taken) (t .0 .taken) in
+    let both = no-entry _ _ (starts (s e)) (s e .args .buffer .now) _ _ (read e) (all e) (within (s e)) (left .if1 .taken) (t .0 .taken) in
     (c .refused .ensures ∙ ap refused (t .1) ∙ both .0, both .1))
     (λ t.
-    let both = too-many (text (s e)) (start (s e)) (starts (s e)) (s e .args .buffer .now) (words e) (e .read-entries .result) (read e) (all e) (within (s e)) (left .if1 .taken) (t .0 .left) in
+    let both = too-many _ _ (starts (s e)) (s e .args .buffer .now) _ _ (read e) (all e) (within (s e)) (left .if1 .taken) (t .0 .left) in
     (c .refused .ensures ∙ ap refused (t .1) ∙ both .0, both .1))
     (j .if2 .came)
 
@@ -97,7 +97,7 @@ returns-2 : tie.Need-returns-2
 returns-2 c =
     let none = c .before .before .before in
     let e = none .before .before .before .before in
-    let both = too-few (text (s e)) (start (s e)) (starts (s e)) (s e .args .buffer .now) (words e) (e .read-entries .result) (read e) (all e) (within (s e)) (none .if1 .left) (c .before .if3 .taken) in
+    let both = too-few _ _ (starts (s e)) (s e .args .buffer .now) _ _ (read e) (all e) (within (s e)) (none .if1 .left) (c .before .if3 .taken) in
     (c .refused2 .ensures ∙ both .0, both .1)
 
 write-record-requires : tie.Need-write-record-requires
@@ -115,8 +115,8 @@ returns-3 c =
     let whole = w .before .before .before in
     let none = whole .before .before in
     let e = none .before .before .before .before in
-    all-entries (text (s e)) (start (s e)) (starts (s e)) (s e .args .buffer .now) (words e) (e .read-entries .result) (read e) (all e) (within (s e))
-    (s e .args .m) (s e .args .n) (s e .pre .1 .1 .1 .0) (s e .pre .1 .1 .1 .1) (s e .pre .0) (none .if1 .left) (whole .if3 .left) _ _ (w .write-record .ensures .0) (w .write-record .ensures .1)
+    all-entries _ _ (starts (s e)) (s e .args .buffer .now) _ _ (read e) (all e) (within (s e))
+    _ _ (s e .pre .1 .1 .1 .0) (s e .pre .1 .1 .1 .1) (s e .pre .0) (none .if1 .left) (whole .if3 .left) _ _ (w .write-record .ensures .0) (w .write-record .ensures .1)
 
 pub write-entries-spec : {M : Type 1} → statement M
 write-entries-spec =

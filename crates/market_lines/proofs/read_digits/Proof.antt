@@ -8,7 +8,8 @@ use native.Mathlib.Omega.{arith}
 use lib.ListN.{length, getD}
 use borrow.Author.Tests.{not-true, not-false}
 use Rattle.market_rules.specs.Forms.{isDigit}
-use Rattle.market_lines.proofs.Scan.{DigitsFrom, digits-stop, digits-next, digits-end, no-digit, digit-range}
+use Rattle.market_rules.proofs.FormLaws.{digit-says}
+use Rattle.market_lines.proofs.Scan.{DigitsFrom, digits-stop, digits-next, digits-end, no-digit}
 use Rattle.market_lines.proofs.read_digits.Statement.{statement}
 use Rattle.market_lines.proofs.read_digits.Tie as tie
 
@@ -30,7 +31,7 @@ module _ (c : tie.Else1 Inv-loop μ-loop) where
   its-digit = sym (c .before .is-digit .ensures) ∙ not-false (c .before .is-digit .result) (c .if1 .left)
 
   its-range : (48 ≤ getD bytes-there place 0) × (getD bytes-there place 0 ≤ 57)
-  its-range = digit-range bytes-there place (omega arith) its-digit
+  its-range = digit-says (getD bytes-there place 0) .0 its-digit
 
 loop-holds : tie.Need-loop-holds Inv-loop μ-loop
 loop-holds c = (c .before .pre, omega arith, record { ends = refl; says = refl })

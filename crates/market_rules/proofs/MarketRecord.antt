@@ -1,46 +1,34 @@
--- A matrix record is what its matrix says, two's complement reads back, and the record of an accepted text is a matrix record that has the
--- text's entries, entry k in row k mod m of column k div m.
+-- Two's complement reads back; and the record of an accepted text is a matrix record that has the text's entries, entry k in row k mod m of
+-- column k div m.
 -- Assumes nothing.
-use Prim.Native.Nat.{ℕ, zero, suc, _+_, _*_, _-_, _/_, _%_, _≤_, _<_}
-use mathlib.Core.Path.{_≡_, refl, sym, ap, ap₂, _∙_, subst}
-use mathlib.Core.Bool.{Bool, true, false, cond}
-use mathlib.Core.Logic.{_↔_, ⊎-elim}
+use Prim.Native.Nat.{ℕ, suc, _+_, _*_, _-_, _/_, _%_, _≤_, _<_}
+use mathlib.Core.Path.{_≡_, refl, sym, ap, ap₂, _∙_}
+use mathlib.Core.Logic.{_↔_}
 use mathlib.Core.List.{List, [], _∷_}
 use native.Mathlib.Decide.{decLt}
-use native.Mathlib.Nat.{mul-comm, mul-le-mul, le-refl, mod-lt, mod-eq-of-lt, div-eq-of-lt, div-lt-iff-lt-mul, div-add-mod', mul-add-mod-self-right, mul-add-div-right, eq-zero-or-pos}
+use native.Mathlib.Nat.{mul-comm, mul-le-mul, le-refl, div-add-mod'}
 use native.Mathlib.Omega.{arith}
-use lib.Dec.{ltb}
-use lib.IntN.{ℤ, pos, negsuc, _-ℤ_}
+use lib.IntN.{ℤ, pos, negsuc}
 use lib.ListN.{length, getD, List·getD-eq-default}
 use lib.Seq.{ext-getD}
 use lib.Signed.{_≤ℤ_}
-use borrow.Author.Tests.{ltb-true, ltb-false, lt-ltb, le-ltb}
-use Rattle.integers.proofs.Expression.{nat, minus, _⊝_, equal, equal-parts, at-most-parts}
+use borrow.Author.Tests.{lt-ltb, le-ltb}
+use Rattle.integers.proofs.Expression.{nat, minus, _⊝_, equal, at-most-parts}
 use Rattle.limits.specs.Size.{SizeLimits}
-use Rattle.layout_rules.specs.Bytes.{word}
-use Rattle.layout_rules.specs.Matrix.{rows, columns, matrix, matrixLength, IsMatrixRecord, signedWord, coefficientPlace, coefficientAt}
+use Rattle.layout_rules.specs.Matrix.{rows, columns, matrix, matrixLength, IsMatrixRecord, signedWord}
 use Rattle.layout_rules.specs.Tests.{Test, tested, AllPass, firstTests}
 use Rattle.layout_rules.proofs.FirstRecords.{length-first, getD-first}
-use Rattle.layout_rules.proofs.LittleEndian.{AreBytes, word-below}
+use Rattle.layout_rules.proofs.LittleEndian.{AreBytes}
+use Rattle.layout_rules.proofs.MatrixBytes.{number-parts, parts-within}
 use Rattle.layout_rules.proofs.MatrixRecord.{matrix-record-length, matrix-record-bytes, matrix-coefficient}
 use Rattle.layout_rules.proofs.MatrixRows.{matrix-length, matrix-row-length, matrix-at}
 use Rattle.layout_rules.proofs.TestLaws.{all-append, all-split, first-all, all-first}
 use Rattle.market_rules.specs.Lines.{line}
 use Rattle.market_rules.specs.Forms.{firstLine}
-use Rattle.market_rules.specs.Market.{sizeIndex, fileRows, fileColumns, entryCount, entryLines, entryPlace, entry, twosComplement, entryIndex, coefficientWords, marketRecord}
+use Rattle.market_rules.specs.Market.{sizeIndex, fileRows, fileColumns, entryCount, entryLines, entryPlace, fileEntry, twosComplement, entryIndex, coefficientWords, marketRecord}
 use Rattle.market_rules.specs.Tests.{SizeLine, EntryLine, entryTests, marketTests}
 
 -- ---- two's complement
-
-signed-same : (x y : ℕ) → x < 65536 → y < 65536 → signedWord x ≡ signedWord y → x ≡ y
-unfolding signedWord
-signed-same x y h k = go (ltb x 32768) (ltb y 32768) refl refl
-  where
-    go : (t u : Bool) → ltb x 32768 ≡ t → ltb y 32768 ≡ u → cond t (pos x) (pos x -ℤ pos 65536) ≡ cond u (pos y) (pos y -ℤ pos 65536) → x ≡ y
-    go true true p q e = omega (arith, equal-parts (nat x) (nat y) e)
-    go true false p q e = omega (arith, ltb-true x 32768 p, ltb-false y 32768 q, equal-parts (nat x) (nat y ⊝ nat 65536) e)
-    go false true p q e = omega (arith, ltb-false x 32768 p, ltb-true y 32768 q, equal-parts (nat x ⊝ nat 65536) (nat y) e)
-    go false false p q e = omega (arith, equal-parts (nat x ⊝ nat 65536) (nat y ⊝ nat 65536) e)
 
 pub signed-complement : (z : ℤ) → negsuc 32767 ≤ℤ z → z ≤ℤ pos 32767 → signedWord (twosComplement z) ≡ z
 unfolding signedWord
@@ -53,14 +41,7 @@ pub complement-below : (z : ℤ) → z ≤ℤ pos 32767 → twosComplement z < 6
 complement-below (pos x) most = omega (arith, at-most-parts (nat x) (nat 32767) most)
 complement-below (negsuc x) most = omega arith
 
--- ---- a record is what its matrix says, and its matrix what its entries column by column say
-
-number-parts : (n i j : ℕ) → j < n → ((i * n + j) % n ≡ j) × ((i * n + j) / n ≡ i)
-number-parts n i j h = (mul-add-mod-self-right i n j ∙ mod-eq-of-lt h, mul-add-div-right (omega arith) i j ∙ omega (arith, div-eq-of-lt h))
-
--- number k of m rows of n, one after another
-pub parts-within : (m n k : ℕ) → 1 ≤ n → k < m * n → (k / n < m) × (k % n < n)
-parts-within m n k some h = (div-lt-iff-lt-mul some .1 h, mod-lt k some)
+-- ---- a record's matrix is what its entries column by column say
 
 -- row k mod m of column k div m
 abbrev pub columnEntry : List ℕ → ℕ → ℤ
@@ -89,67 +70,13 @@ entries-determine b c same-rows same-columns each =
         (matrix-row-length b i h ∙ same-columns ∙ sym (matrix-row-length c i (omega arith)))
         (λ j l. same-at i j h (omega (arith, matrix-row-length b i h)))
 
-module _ (b c : List ℕ) (bytes : AreBytes b) (others : AreBytes c) where
-  -- both bytes at a place, from their number
-  same-bytes : (place : ℕ) → word b place ≡ word c place → (getD b place 0 ≡ getD c place 0) × (getD b (place + 1) 0 ≡ getD c (place + 1) 0)
-  same-bytes place e = omega (arith, bytes place, others place)
-
-  module _ (r : IsMatrixRecord b) (s : IsMatrixRecord c) (e : matrix b ≡ matrix c) where
-    same-rows : rows b ≡ rows c
-    same-rows = sym (matrix-length b) ∙ ap length e ∙ matrix-length c
-
-    same-columns : columns b ≡ columns c
-    same-columns =
-        sym (matrix-row-length b 0 (r .limits .rows-least)) ∙ ap (λ (m : List (List ℤ)). length (getD m 0 [])) e ∙ matrix-row-length c 0 (s .limits .rows-least)
-
-    same-length : length b ≡ length c
-    same-length = r .size ∙ ap₂ matrixLength same-rows same-columns ∙ sym (s .size)
-
-    same-count : word b 0 ≡ word c 0
-    same-count = r .counted ∙ same-length ∙ sym (s .counted)
-
-    same-kind : word b 2 ≡ word c 2
-    same-kind = r .kind ∙ sym (s .kind)
-
-    same-coefficient : (k : ℕ) → k < rows b * columns b → coefficientAt b k ≡ coefficientAt c k
-    same-coefficient k h =
-        let n = columns b in
-        let within = parts-within (rows b) n k (r .limits .columns-least) h in
-        ap (coefficientAt b) (sym (div-add-mod' k n))
-        ∙ sym (matrix-at b (k / n) (k % n) (within .0) (within .1))
-        ∙ ap (λ (m : List (List ℤ)). getD (getD m (k / n) []) (k % n) (pos 0)) e
-        ∙ matrix-at c (k / n) (k % n) (omega (arith, same-rows)) (omega (arith, same-columns))
-        ∙ ap (λ (m : ℕ). coefficientAt c (k / n * m + k % n)) (sym same-columns)
-        ∙ ap (coefficientAt c) (div-add-mod' k n)
-
-    same-word : (k : ℕ) → k < rows b * columns b → word b (coefficientPlace k) ≡ word c (coefficientPlace k)
-    unfolding coefficientAt
-    same-word k h =
-        signed-same (word b (coefficientPlace k)) (word c (coefficientPlace k)) (word-below b bytes (coefficientPlace k)) (word-below c others (coefficientPlace k))
-        (same-coefficient k h)
-
-    same-byte : (i : ℕ) → i < length b → getD b i 0 ≡ getD c i 0
-    same-byte zero h = same-bytes 0 same-count .0
-    same-byte (suc zero) h = same-bytes 0 same-count .1
-    same-byte (suc (suc zero)) h = same-bytes 2 same-kind .0
-    same-byte (suc (suc (suc zero))) h = same-bytes 2 same-kind .1
-    same-byte (suc (suc (suc (suc zero)))) h = same-rows
-    same-byte (suc (suc (suc (suc (suc zero))))) h = same-columns
-    same-byte (suc (suc (suc (suc (suc (suc i)))))) h =
-        let both = same-bytes (coefficientPlace (i / 2)) (same-word (i / 2) (omega (arith, r .size))) in
-        let at : ℕ → Type 0 = λ k. getD b k 0 ≡ getD c k 0 in
-        ⊎-elim (λ even. subst at (omega arith) (both .0)) (λ odd. subst at (omega arith) (both .1)) (eq-zero-or-pos (i % 2))
-
-    pub matrix-determines : b ≡ c
-    matrix-determines = ext-getD 0 b c same-length same-byte
-
 -- ---- what an accepted text is, whatever the buffer
 
 pub record AcceptedText (text : List ℕ) : Type 0 where
   pub first-line : line text 0 ≡ firstLine
   pub its-size : SizeLine (line text (sizeIndex text)) (fileRows text) (fileColumns text)
   pub limits : SizeLimits (fileRows text) (fileColumns text)
-  pub each-entry : (k : ℕ) → k < entryCount text → EntryLine (getD (entryLines text) k []) (entry text k)
+  pub each-entry : (k : ℕ) → k < entryCount text → EntryLine (getD (entryLines text) k []) (fileEntry text k)
   pub all-entries : length (entryLines text) ≡ entryCount text
 
 pub tests-passed : (text : List ℕ) (room : ℕ) → AllPass (marketTests text room) ↔ (AcceptedText text × (length (marketRecord text) ≤ room))
@@ -200,7 +127,7 @@ module _ (text : List ℕ) where
 
   -- the two bytes of a coefficient of a number, as one number
   abbrev coefficientWord : ℕ → ℕ
-  coefficientWord k = twosComplement (entry text (entryIndex m n k))
+  coefficientWord k = twosComplement (fileEntry text (entryIndex m n k))
 
   pub market-rows : rows (marketRecord text) ≡ m
   unfolding marketRecord
@@ -227,7 +154,7 @@ module _ (text : List ℕ) where
         go : Dec (k < m * n) → getD (coefficientWords text) k 0 < 65536
         go (yes h) =
             let its = accepted .each-entry (entryIndex m n k) (within-number m n k (accepted .limits .columns-least) h) in
-            rw (word-at k h) (complement-below (entry text (entryIndex m n k)) (its .most))
+            rw (word-at k h) (complement-below (fileEntry text (entryIndex m n k)) (its .most))
         go (no h) = rw (List·getD-eq-default (coefficientWords text) 0 {n = k} (omega (arith, all-words))) (omega arith)
 
     pub market-bytes : AreBytes (marketRecord text)
@@ -239,7 +166,7 @@ module _ (text : List ℕ) where
     market-record = record { counted = omega arith; kind = refl; limits = accepted .limits; size = market-length }
 
     -- entry k of the file is row k mod m of column k div m
-    pub market-entry : (k : ℕ) → k < m * n → getD (getD (matrix (marketRecord text)) (k % m) []) (k / m) (pos 0) ≡ entry text k
+    pub market-entry : (k : ℕ) → k < m * n → getD (getD (matrix (marketRecord text)) (k % m) []) (k / m) (pos 0) ≡ fileEntry text k
     unfolding marketRecord
     market-entry k h =
         let i = k % m in
@@ -251,5 +178,5 @@ module _ (text : List ℕ) where
         matrix-at (marketRecord text) i j (within .1) (within .0)
         ∙ matrix-coefficient m n (coefficientWords text) all-words (i * n + j) inside
         ∙ ap signedWord (word-at (i * n + j) inside)
-        ∙ ap (λ (k : ℕ). signedWord (twosComplement (entry text k))) (number-of m n i j (within .0) ∙ div-add-mod' k m)
-        ∙ signed-complement (entry text k) (its .least) (its .most)
+        ∙ ap (λ (k : ℕ). signedWord (twosComplement (fileEntry text k))) (number-of m n i j (within .0) ∙ div-add-mod' k m)
+        ∙ signed-complement (fileEntry text k) (its .least) (its .most)
