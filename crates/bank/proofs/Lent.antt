@@ -8,30 +8,29 @@ use native.Mathlib.Omega.{arith}
 use lib.Dec.{ltb}
 use lib.ListN.{length, drop, length-append}
 use borrow.Author.Tests.{ltb-true, ltb-false}
-use Rattle.layout_rules.specs.Matrix.{matrixRefusal}
 use Rattle.compile_rules.specs.declared.CompileAnswer.{CompileAnswer}
-use Rattle.compile_rules.specs.Compile.{compiledBytes, compileAnswer, compileBuffer}
+use Rattle.compile_rules.specs.Compile.{compiledBytes, inputRefusal, compileAnswer, compileBuffer}
 use Rattle.compile_rules.proofs.Compiled.{answer-refused, answer-short, answer-accepted, buffer-accepted}
 
-pub written-within : (matrixBytes buffer : List ℕ) → compileAnswer matrixBytes (length buffer) .written ≤ length (compileBuffer matrixBytes buffer)
-written-within matrixBytes buffer = by-refusal (matrixRefusal matrixBytes) refl
+pub written-within : (s : ℕ) (matrixBytes buffer : List ℕ) → compileAnswer s matrixBytes (length buffer) .written ≤ length (compileBuffer s matrixBytes buffer)
+written-within s matrixBytes buffer = by-refusal (inputRefusal s matrixBytes) refl
   where
     count : CompileAnswer → ℕ
     count a = a .written
 
-    room : (short : Bool) → matrixRefusal matrixBytes ≡ 0 → ltb (length buffer) (length (compiledBytes matrixBytes)) ≡ short
-        → compileAnswer matrixBytes (length buffer) .written ≤ length (compileBuffer matrixBytes buffer)
-    room true e t = omega (arith, ap count (answer-short matrixBytes (length buffer) e (ltb-true (length buffer) (length (compiledBytes matrixBytes)) t)))
+    room : (short : Bool) → inputRefusal s matrixBytes ≡ 0 → ltb (length buffer) (length (compiledBytes s matrixBytes)) ≡ short
+        → compileAnswer s matrixBytes (length buffer) .written ≤ length (compileBuffer s matrixBytes buffer)
+    room true e t = omega (arith, ap count (answer-short s matrixBytes (length buffer) e (ltb-true (length buffer) (length (compiledBytes s matrixBytes)) t)))
     room false e f =
-        let enough = ltb-false (length buffer) (length (compiledBytes matrixBytes)) f in
-        let bytes : List ℕ = compiledBytes matrixBytes in
+        let enough = ltb-false (length buffer) (length (compiledBytes s matrixBytes)) f in
+        let bytes : List ℕ = compiledBytes s matrixBytes in
         omega (
           arith,
-          ap count (answer-accepted matrixBytes (length buffer) e enough),
-          ap length (buffer-accepted matrixBytes buffer e enough),
+          ap count (answer-accepted s matrixBytes (length buffer) e enough),
+          ap length (buffer-accepted s matrixBytes buffer e enough),
           length-append bytes (drop (length bytes) buffer),
         )
 
-    by-refusal : (r : ℕ) → matrixRefusal matrixBytes ≡ r → compileAnswer matrixBytes (length buffer) .written ≤ length (compileBuffer matrixBytes buffer)
-    by-refusal zero e = room (ltb (length buffer) (length (compiledBytes matrixBytes))) e refl
-    by-refusal (suc r) e = omega (arith, ap count (answer-refused matrixBytes r (length buffer) e))
+    by-refusal : (r : ℕ) → inputRefusal s matrixBytes ≡ r → compileAnswer s matrixBytes (length buffer) .written ≤ length (compileBuffer s matrixBytes buffer)
+    by-refusal zero e = room (ltb (length buffer) (length (compiledBytes s matrixBytes))) e refl
+    by-refusal (suc r) e = omega (arith, ap count (answer-refused s matrixBytes r (length buffer) e))

@@ -5,19 +5,20 @@ ghost use mathlib.Core.Path.{_≡_};
 ghost use Rattle.compile_rules.specs.Compile.{compileBuffer};
 ghost use Rattle.bank_rules.specs.Claim.{Given, Claim, answersOf, outputsAfter};
 
-// Compile, then read and run on the part that compile wrote.
+// Compile for samples of a width, then read and run on the part that compile wrote.
 pub fn compile_read_run(
     matrix: &[u8],
+    sample_width: u8,
     buffer: &mut [u8],
-    samples: &[i16],
+    samples: &[i32],
     outputs: &mut [i64],
 ) -> Answers
-    ensures { λ r. ⌜ r ≡ answersOf (now (matrix .entry)) (now (buffer .entry)) (now (samples .entry)) (now (outputs .entry)) ⌝ }
-    ensures { λ r. ⌜ now (buffer .exit) ≡ compileBuffer (now (matrix .entry)) (now (buffer .entry)) ⌝ }
-    ensures { λ r. ⌜ now (outputs .exit) ≡ outputsAfter (now (matrix .entry)) (now (buffer .entry)) (now (samples .entry)) (now (outputs .entry)) ⌝ }
-    ensures { λ r. ⌜ (Given (now (matrix .entry)) (now (buffer .entry)) (now (samples .entry)) (now (outputs .entry)) → Claim (now (matrix .entry)) (now (buffer .exit)) (now (samples .entry)) (now (outputs .exit)) r) ⌝ }
+    ensures { λ r. ⌜ r ≡ answersOf «sample_width» (now (matrix .entry)) (now (buffer .entry)) (now (samples .entry)) (now (outputs .entry)) ⌝ }
+    ensures { λ r. ⌜ now (buffer .exit) ≡ compileBuffer «sample_width» (now (matrix .entry)) (now (buffer .entry)) ⌝ }
+    ensures { λ r. ⌜ now (outputs .exit) ≡ outputsAfter «sample_width» (now (matrix .entry)) (now (buffer .entry)) (now (samples .entry)) (now (outputs .entry)) ⌝ }
+    ensures { λ r. ⌜ (Given «sample_width» (now (matrix .entry)) (now (buffer .entry)) (now (samples .entry)) (now (outputs .entry)) → Claim «sample_width» (now (matrix .entry)) (now (buffer .exit)) (now (samples .entry)) (now (outputs .exit)) r) ⌝ }
 {
-    let compile = compile::compile(matrix, buffer);
+    let compile = compile::compile(matrix, sample_width, buffer);
     let written = compile.written;
     let bytes = &buffer[..written];
     let read = netlist_read::read(bytes);

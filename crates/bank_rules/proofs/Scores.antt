@@ -56,7 +56,7 @@ module _ (d : Divisor) where
           let apart = subst NoOverlap e (taken-apart d r) in
           clash (all 0 0 q p (second-taken r p q ps e) (first-taken r p (q ∷ ps) e) .1) (apart .0 q (List·Memᴰ·head refl))
 
-pub scores-below-two : (matrixBytes buffer : List ℕ) (samples outputs : List ℤ) (answers : Answers)
-    → (claim : Claim matrixBytes buffer samples outputs answers) (d : Divisor) → score d (claim .elimination .remainingRows) < 2
-scores-below-two matrixBytes buffer samples outputs answers claim d =
+pub scores-below-two : (s : ℕ) (matrixBytes buffer : List ℕ) (samples outputs : List ℤ) (answers : Answers)
+    → (claim : Claim s matrixBytes buffer samples outputs answers) (d : Divisor) → score d (claim .elimination .remainingRows) < 2
+scores-below-two s matrixBytes buffer samples outputs answers claim d =
     below-two d (claim .elimination .remainingRows) (λ i j p q first second. claim .occurrences-overlap d i j p q first second)

@@ -8,7 +8,8 @@ use mathlib.Core.Logic.{_⊎_}
 use mathlib.Core.List.{List, [], _∷_, _++_, map, List·Memᴰ}
 use lib.IntN.{ℤ}
 use lib.ListN.{length, getD, take}
-use Rattle.limits.specs.Limits.{positions, sampleWidth}
+use Rattle.limits.specs.Limits.{positions}
+use Rattle.limits.specs.Size.{SampleWidth}
 use Rattle.elimination_rules.specs.declared.Divisor.{Divisor}
 use Rattle.elimination_rules.specs.Rows.{matrixRows, plainCount}
 use Rattle.elimination_rules.specs.Divisors.{Pair, occurrences, overlap}
@@ -36,13 +37,16 @@ pub record MatrixWithinLimits (bytes : List ℕ) : Type 0 where
   pub are-bytes : (i : ℕ) → getD bytes i 0 < 256
   pub within : (bytes ≡ []) ⊎ IsMatrixRecord bytes
 
-pub record Given (matrixBytes buffer : List ℕ) (samples outputs : List ℤ) : Type 0 where
+-- s is the sample width
+pub record Given (s : ℕ) (matrixBytes buffer : List ℕ) (samples outputs : List ℤ) : Type 0 where
   -- "for every matrix within the limits"
   pub within-limits : MatrixWithinLimits matrixBytes
+  -- "every sample width from 8 to 24"
+  pub sample-width : SampleWidth s
   -- "every lent buffer long enough for its netlist", whatever it held
-  pub long-enough : length (compiledBytes matrixBytes) ≤ length buffer
-  -- "and every vector of 16-bit samples, however steep"; "Run is lent the vector as its n samples"
-  pub vector : Samples sampleWidth (columns matrixBytes) samples
+  pub long-enough : length (compiledBytes s matrixBytes) ≤ length buffer
+  -- "and every vector of samples of that width, however steep"; "Run is lent the vector as its n samples"
+  pub vector : Samples s (columns matrixBytes) samples
   -- "and m outputs, whatever the outputs held"
   pub one-per-row : length outputs ≡ rows matrixBytes
 
@@ -60,8 +64,8 @@ bytesWritten answer buffer = take (answer .written) buffer
 abbrev pub Overlap : ℕ → Pair → ℕ → Pair → Type 0
 Overlap i p j q = (i ≡ j) × (overlap p q ≡ true)
 
--- the matrix's bytes, the buffer after compile, the samples, the outputs after run, and what the three calls returned
-pub record Claim (matrixBytes buffer : List ℕ) (samples outputs : List ℤ) (answers : Answers) : Type 0 where
+-- the sample width, the matrix's bytes, the buffer after compile, the samples, the outputs after run, and what the three calls returned
+pub record Claim (s : ℕ) (matrixBytes buffer : List ℕ) (samples outputs : List ℤ) (answers : Answers) : Type 0 where
   -- "Compile accepts the matrix, and read and run accept the bytes it wrote."
   pub compile-accepts : Accepts (answers .compile .refusal) (answers .compile .place)
   pub read-accepts : Accepts (answers .read .refusal) (answers .read .place)
@@ -73,6 +77,8 @@ pub record Claim (matrixBytes buffer : List ℕ) (samples outputs : List ℤ) (a
   pub netlist : Netlist
   pub its-bytes : IsNetlistBytes (bytesWritten (answers .compile) buffer) netlist
   pub its-reading : readNetlist (bytesWritten (answers .compile) buffer) ≡ accepted netlist
+  -- they are for samples of this width
+  pub its-width : netlist .head .width ≡ s
   -- "Read returns the matrix's m and n, and the operations and depth that compile reported."
   pub read-rows : answers .read .m ≡ rows matrixBytes
   pub read-columns : answers .read .n ≡ columns matrixBytes
@@ -112,10 +118,10 @@ pub record Claim (matrixBytes buffer : List ℕ) (samples outputs : List ℤ) (a
   -- remaining row its joins, each with its width; and the outputs
   pub very-operations :
       let os = operationsOf (columns matrixBytes) elimination in
-      netlist .operations ≡ withWidths sampleWidth (columns matrixBytes) os (columns matrixBytes) os
+      netlist .operations ≡ withWidths s (columns matrixBytes) os (columns matrixBytes) os
   pub very-outputs :
       let os = operationsOf (columns matrixBytes) elimination in
-      netlist .outputs ≡ map (outputWithWidth sampleWidth (columns matrixBytes) os) (outputsOf (columns matrixBytes) elimination)
+      netlist .outputs ≡ map (outputWithWidth s (columns matrixBytes) os) (outputsOf (columns matrixBytes) elimination)
   -- "and replacements the pairs replaced on the way to those rows": steps from the matrix's rows to the remaining rows, whose divisors
   -- are these and whose pairs replaced number so many
   pub way-to-those-rows : Steps (columns matrixBytes) (matrixRows positions (matrix matrixBytes))
@@ -123,20 +129,22 @@ pub record Claim (matrixBytes buffer : List ℕ) (samples outputs : List ℤ) (a
 
 -- ---- what is claimed of the three calls' definitions
 
--- compile is lent the matrix's bytes and the buffer; read the bytes it wrote; run these, the samples and the outputs
-abbrev pub answersOf : List ℕ → List ℕ → List ℤ → List ℤ → Answers
-answersOf matrixBytes buffer samples outputs =
-    let compiled = compileAnswer matrixBytes (length buffer) in
-    let bytes = bytesWritten compiled (compileBuffer matrixBytes buffer) in
-    record { compile = compiled; read = readAnswer bytes; run = runAnswer bytes (length samples) (length outputs) }
+-- compile is lent the matrix's bytes and the buffer, and given the sample width; read is lent the bytes it wrote; run these, the samples
+-- and the outputs
+abbrev pub answersOf : ℕ → List ℕ → List ℕ → List ℤ → List ℤ → Answers
+answersOf s matrixBytes buffer samples outputs =
+    let compiled = compileAnswer s matrixBytes (length buffer) in
+    let bytes = bytesWritten compiled (compileBuffer s matrixBytes buffer) in
+    record { compile = compiled; read = readAnswer bytes; run = runAnswer bytes samples (length outputs) }
 
 -- the lent outputs after run
-abbrev pub outputsAfter : List ℕ → List ℕ → List ℤ → List ℤ → List ℤ
-outputsAfter matrixBytes buffer samples outputs =
-    runOutputs (bytesWritten (compileAnswer matrixBytes (length buffer)) (compileBuffer matrixBytes buffer)) samples outputs
+abbrev pub outputsAfter : ℕ → List ℕ → List ℕ → List ℤ → List ℤ → List ℤ
+outputsAfter s matrixBytes buffer samples outputs =
+    runOutputs (bytesWritten (compileAnswer s matrixBytes (length buffer)) (compileBuffer s matrixBytes buffer)) samples outputs
 
--- "This is one claim, for every matrix within the limits, every lent buffer long enough for its netlist and every vector of 16-bit samples"
+-- "This is one claim, for every matrix within the limits, every sample width from 8 to 24, every lent buffer long enough for its netlist
+-- and every vector of samples of that width"
 abbrev pub Demand : Type 0
-Demand = (matrixBytes buffer : List ℕ) (samples outputs : List ℤ) → Given matrixBytes buffer samples outputs
-    → Claim matrixBytes (compileBuffer matrixBytes buffer) samples (outputsAfter matrixBytes buffer samples outputs)
-    (answersOf matrixBytes buffer samples outputs)
+Demand = (s : ℕ) (matrixBytes buffer : List ℕ) (samples outputs : List ℤ) → Given s matrixBytes buffer samples outputs
+    → Claim s matrixBytes (compileBuffer s matrixBytes buffer) samples (outputsAfter s matrixBytes buffer samples outputs)
+    (answersOf s matrixBytes buffer samples outputs)

@@ -9,7 +9,7 @@ use Rattle.board_rules.specs.Machine.{entryForm, outputForm, depth}
 use Rattle.board_rules.specs.Width.{width}
 use Rattle.sum_rules.specs.Joins.{signField}
 use Rattle.sum_rules.specs.Shallowest.{sumOperations, sumOutputs}
-use Rattle.compile_rules.specs.Compile.{operationsOf, outputsOf, withWidths, netlistOf}
+use Rattle.compile_rules.specs.Compile.{operationsOf, outputsOf, withWidths, netlistOf, inputRefusal}
 use Rattle.compile_rules.proofs.Marked.{marked-banks}
 use Rattle.text.specs.Decimal.{decimal, number}
 use Rattle.listing_rules.specs.Listing.{countsLine, operationLine, valueText, lines}
@@ -18,5 +18,13 @@ use Rattle.bank_text.specs.BankText.{bankText}
 use Rattle.bank_text.specs.Marked.{MarkedTable}
 
 pub marked-table : MarkedTable
-unfolding xor matrixRows plainCount matrixElimination matrixRefusal matrix rowsFrom coefficientsFrom coefficientAt signedWord entryForm outputForm depth width signField sumOperations sumOutputs operationsOf outputsOf withWidths netlistOf decimal number countsLine operationLine valueText lines bankText
-marked-table = record { banks = marked-banks; lines = marked; printed = refl; printed-none = refl; printed-refusal = refl }
+unfolding xor matrixRows plainCount matrixElimination matrixRefusal matrix rowsFrom coefficientsFrom coefficientAt signedWord entryForm outputForm depth width signField sumOperations sumOutputs operationsOf outputsOf withWidths netlistOf inputRefusal decimal number countsLine operationLine valueText lines bankText
+marked-table = record {
+  banks = marked-banks;
+  lines = marked;
+  printed = refl;
+  printed-twelve = refl;
+  printed-none = refl;
+  printed-refusal = refl;
+  printed-outside = refl;
+}

@@ -1,5 +1,5 @@
-// Document 01, "Programs": the text of list-bank for a matrix record. Rests on `limits`, `layout_records`, `compile` and
-// `listing`.
+// Document 01, "Programs": the text of list-bank for a matrix record and a sample width. Rests on `limits`, `layout_records`,
+// `compile` and `listing`.
 use layout_records::places::no_netlist;
 use limits::MAX_OPERATIONS;
 use limits::MAX_ROWS;
@@ -7,7 +7,6 @@ use listing_rules::Counts;
 use listing_rules::LONGEST_COUNTS_LINE;
 use listing_rules::LONGEST_OPERATION_LINE;
 use listing_rules::LONGEST_OUTPUT_LINE;
-ghost use mathlib.Core.Path.{_≡_};
 ghost use Prim.Native.Nat.{_≤_};
 ghost use lib.ListN.{length};
 ghost use Rattle.text.specs.Wrote.{Wrote, PrefixLength};
@@ -18,12 +17,12 @@ pub const ROOM: usize = LONGEST_COUNTS_LINE
     + LONGEST_OPERATION_LINE * MAX_OPERATIONS
     + LONGEST_OUTPUT_LINE * MAX_ROWS;
 
-fn write_text(matrix: &[u8], text: &mut [u8]) -> usize
+fn write_text(matrix: &[u8], sample_width: u8, text: &mut [u8]) -> usize
     requires { ⌜ longestBankText ≤ length (now text) ⌝ }
-    ensures { λ r. ⌜ Wrote (now (text .entry)) (now (text .exit)) r (bankText (now (matrix .entry))) ⌝ }
+    ensures { λ r. ⌜ Wrote (now (text .entry)) (now (text .exit)) r (bankText «sample_width» (now (matrix .entry))) ⌝ }
 {
     let mut netlist = no_netlist();
-    let answer = compile::compile(matrix, &mut netlist);
+    let answer = compile::compile(matrix, sample_width, &mut netlist);
     if answer.refusal != 0 {
         return text::write_refused(answer.refusal, answer.place, text);
     }
@@ -40,12 +39,12 @@ fn write_text(matrix: &[u8], text: &mut [u8]) -> usize
 }
 
 // Writes the text at the start of the lent bytes and answers how long it is; nothing where they are too few.
-pub fn write_bank(matrix: &[u8], text: &mut [u8]) -> usize
-    ensures { λ r. ⌜ Wrote (now (text .entry)) (now (text .exit)) r (bankTextIn (length (now (text .entry))) (now (matrix .entry))) ⌝ }
+pub fn write_bank(matrix: &[u8], sample_width: u8, text: &mut [u8]) -> usize
+    ensures { λ r. ⌜ Wrote (now (text .entry)) (now (text .exit)) r (bankTextIn (length (now (text .entry))) «sample_width» (now (matrix .entry))) ⌝ }
     ensures { λ r. ⌜ PrefixLength r (now (text .exit)) ⌝ }
 {
     if text.len() < ROOM {
         return 0;
     }
-    write_text(matrix, text)
+    write_text(matrix, sample_width, text)
 }

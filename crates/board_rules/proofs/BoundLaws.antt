@@ -8,6 +8,7 @@ use native.Mathlib.Omega.{arith}
 use lib.IntN.{ℤ, pos, natAbs}
 use lib.ListN.{length, getD}
 use Rattle.limits.specs.Limits.{maxShift, maxWidth, maxCompiledWidth}
+use Rattle.limits.specs.Size.{SampleWidth}
 use Rattle.layout_rules.specs.declared.Operation.{Operation}
 use Rattle.layout_rules.specs.declared.Output.{Output}
 use Rattle.board_rules.specs.Machine.{entryAt, machine, entryForm}
@@ -30,8 +31,8 @@ sample-width s n os symbol l h =
 pub widest-shifted : maxWidth + maxShift ≤ 61
 widest-shifted = omega arith
 
-pub compiled-shifted : maxCompiledWidth + maxShift ≤ 61
-compiled-shifted = omega arith
+pub compiled-shifted : {s : ℕ} → SampleWidth s → maxCompiledWidth s + maxShift ≤ 61
+compiled-shifted w = omega (arith, w .most)
 
 -- ---- values
 

@@ -1,13 +1,13 @@
 -- Document 01, "Marked banks": the widths hold.
 -- Assumes nothing.
+use Prim.Native.Nat.{ℕ}
 use mathlib.Core.Path.{_≡_, refl}
 use mathlib.Core.List.{[], _∷_}
 use lib.IntN.{pos, negsuc}
 use lib.ListN.{replicate}
-use Rattle.limits.specs.Limits.{sampleWidth}
 use Rattle.board_rules.specs.Machine.{entryForm, outputForm}
 use Rattle.board_rules.specs.Width.{width}
-use Rattle.board_rules.specs.Marked.{MarkedWidths, sumOfTwo, negatedSample, sumOfEight, negatedSum}
+use Rattle.board_rules.specs.Marked.{WidthsAt, MarkedWidths, sumOfTwo, negatedSample, sumOfEight, negatedSum}
 use Rattle.board_rules.proofs.WidthLaws.{entry-width-is, output-width-is}
 
 -- the coefficients
@@ -24,24 +24,21 @@ unfolding outputForm
 eight-form = refl
 
 -- the widths
-sum-width : width sampleWidth (pos 1 ∷ pos 1 ∷ []) ≡ 17
-unfolding width
-sum-width = refl
-
-negated-width : width sampleWidth (negsuc 0 ∷ []) ≡ 17
-unfolding width
-negated-width = refl
-
-eight-width : width sampleWidth (replicate 8 (negsuc 32767)) ≡ 35
-unfolding width
-eight-width = refl
+widths-at : (s sumWidth negatedWidth eightWidth : ℕ) → width s (pos 1 ∷ pos 1 ∷ []) ≡ sumWidth → width s (negsuc 0 ∷ []) ≡ negatedWidth
+    → width s (replicate 8 (negsuc 32767)) ≡ eightWidth → WidthsAt s sumWidth negatedWidth eightWidth
+widths-at s sumWidth negatedWidth eightWidth sum negated eight = record {
+  sum = sum;
+  negated = negated;
+  eight = eight;
+  sum-is = rw (sum-form, sum) at (entry-width-is s 2 sumOfTwo 2);
+  negated-is = rw (negated-form, negated) at (output-width-is s 1 [] negatedSample);
+  eight-is = rw (eight-form, eight) at (output-width-is s 8 sumOfEight negatedSum);
+}
 
 pub marked-widths : MarkedWidths
+unfolding width
 marked-widths = record {
-  sum = sum-width;
-  negated = negated-width;
-  eight = eight-width;
-  sum-is = rw (sum-form, sum-width) at (entry-width-is sampleWidth 2 sumOfTwo 2);
-  negated-is = rw (negated-form, negated-width) at (output-width-is sampleWidth 1 [] negatedSample);
-  eight-is = rw (eight-form, eight-width) at (output-width-is sampleWidth 8 sumOfEight negatedSum);
+  unstated = widths-at 16 17 17 35 refl refl refl;
+  twelve = widths-at 12 13 13 31 refl refl refl;
+  twenty-four = widths-at 24 25 25 43 refl refl refl;
 }

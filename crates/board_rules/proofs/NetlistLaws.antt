@@ -1,7 +1,7 @@
 -- A netlist within limits is one within wider limits.
 -- Assumes nothing.
 use Prim.Native.Nat.{ℕ, _≤_}
-use mathlib.Core.Path.{_≡_, subst}
+use mathlib.Core.Path.{_≡_, _∙_, subst}
 use mathlib.Core.List.{List}
 use native.Mathlib.Omega.{arith}
 use lib.IntN.{ℤ}
@@ -39,7 +39,13 @@ module _ {l k : Limits} (w : Wider l k) where
 
   pub netlist-wider : {net : Netlist} → IsNetlist l net → IsNetlist k net
   netlist-wider is = record {
-    head = record { limits = is .head .limits; few = omega (arith, is .head .few, w .more-operations); none = is .head .none };
+    head = record {
+      limits = is .head .limits;
+      few = omega (arith, is .head .few, w .more-operations);
+      none = is .head .none;
+      width = is .head .width;
+      samples = is .head .samples ∙ w .same-samples;
+    };
     count = is .count;
     one-per-row = is .one-per-row;
     operation = λ before after o e.

@@ -5,7 +5,7 @@ use mathlib.Core.Path.{_≡_}
 use mathlib.Core.List.{List, [], _∷_}
 use lib.IntN.{pos, negsuc}
 use lib.ListN.{replicate}
-use Rattle.limits.specs.Limits.{sampleWidth}
+use Rattle.limits.specs.Limits.{unstatedWidth}
 use Rattle.layout_rules.specs.declared.Operation.{Operation}
 use Rattle.layout_rules.specs.declared.Output.{Output}
 use Rattle.board_rules.specs.Machine.{entryAt, machine, outputValue}
@@ -38,12 +38,19 @@ sumOfEight =
 abbrev pub negatedSum : Output
 negatedSum = record { sign = 1; symbol = 14; shift = 0; width = 35 }
 
--- "width of x0 + x1 is 17, of −x0 17, of eight times −32,768 summed 35": as worked out from the coefficients, and as defined, over all
--- samples, of what the board machine computes
+-- over samples of s bits, the width of x0 + x1, of −x0, and of eight times −32,768 summed: as worked out from the coefficients, and as
+-- defined, over all samples, of what the board machine computes
+pub record WidthsAt (s sumWidth negatedWidth eightWidth : ℕ) : Type 0 where
+  pub sum : width s (pos 1 ∷ pos 1 ∷ []) ≡ sumWidth
+  pub negated : width s (negsuc 0 ∷ []) ≡ negatedWidth
+  pub eight : width s (replicate 8 (negsuc 32767)) ≡ eightWidth
+  pub sum-is : IsWidth s 2 (λ xs. entryAt (machine xs sumOfTwo) 2) sumWidth
+  pub negated-is : IsWidth s 1 (λ xs. outputValue (machine xs []) negatedSample) negatedWidth
+  pub eight-is : IsWidth s 8 (λ xs. outputValue (machine xs sumOfEight) negatedSum) eightWidth
+
 pub record MarkedWidths : Type 0 where
-  pub sum : width sampleWidth (pos 1 ∷ pos 1 ∷ []) ≡ 17
-  pub negated : width sampleWidth (negsuc 0 ∷ []) ≡ 17
-  pub eight : width sampleWidth (replicate 8 (negsuc 32767)) ≡ 35
-  pub sum-is : IsWidth sampleWidth 2 (λ xs. entryAt (machine xs sumOfTwo) 2) 17
-  pub negated-is : IsWidth sampleWidth 1 (λ xs. outputValue (machine xs []) negatedSample) 17
-  pub eight-is : IsWidth sampleWidth 8 (λ xs. outputValue (machine xs sumOfEight) negatedSum) 35
+  -- "width of x0 + x1 is 17, of −x0 17, of eight times −32,768 summed 35"
+  pub unstated : WidthsAt unstatedWidth 17 17 35
+  -- "over samples of 12 bits 13, 13 and 31, over samples of 24 bits 25, 25 and 43"
+  pub twelve : WidthsAt 12 13 13 31
+  pub twenty-four : WidthsAt 24 25 25 43

@@ -7,7 +7,7 @@ use mathlib.Core.Path.{_≡_}
 use mathlib.Core.List.{List, _∷_, _++_}
 use lib.IntN.{ℤ}
 use lib.ListN.{length}
-use Rattle.limits.specs.Size.{BankSize}
+use Rattle.limits.specs.Size.{BankSize, SampleWidth}
 use Rattle.layout_rules.specs.declared.Head.{Head}
 use Rattle.layout_rules.specs.declared.Operation.{Operation}
 use Rattle.layout_rules.specs.declared.Output.{Output}
@@ -23,11 +23,13 @@ pub record Limits : Type 0 where
   pub widest : ℕ
   pub most : ℕ
 
--- "m and n of 0 only together and only with no operations"
+-- "m and n of 0 only together and only with no operations"; "a sample width from 8 to 24", which the other records are held to
 pub record HeadLimits (l : Limits) (h : Head) : Type 0 where
   pub limits : BankSize (h .m) (h .n)
   pub few : h .operations ≤ l .most
   pub none : h .m ≡ 0 → h .operations ≡ 0
+  pub width : SampleWidth (h .width)
+  pub samples : h .width ≡ l .sample
 
 -- fields in range, and operands earlier than the operation, whose symbol is given
 pub record OperationLimits (l : Limits) (symbol : ℕ) (o : Operation) : Type 0 where

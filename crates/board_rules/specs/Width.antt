@@ -1,4 +1,4 @@
--- Document 01, "Netlist and board machine": the width of a value over all samples of s bits (16 in document 01).
+-- Document 01, "Netlist and board machine": the width of a value over all samples of s bits.
 -- Assumes nothing.
 use Prim.Native.Nat.{ℕ, zero, suc, _+_, _*_, _-_, _^_, _≤_, _<_, max, pred}
 use mathlib.Core.Path.{_≡_}

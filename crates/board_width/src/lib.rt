@@ -41,7 +41,7 @@ fn one_less(a: u64) -> u64
 }
 
 // x times 2^s, where that fits.
-fn scaled(x: u64, s: u8) -> u64
+pub fn scaled(x: u64, s: u8) -> u64
     requires { ⌜ (s < 64) × (x * 2 ^ s < 2 ^ 64) ⌝ }
     ensures { λ r. ⌜ r ≡ x * 2 ^ s ⌝ }
 {

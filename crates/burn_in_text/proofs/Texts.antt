@@ -6,12 +6,13 @@ use mathlib.Core.List.{List, [], _++_, append-nil}
 use native.Mathlib.Nat.{suc-mul}
 use native.Mathlib.Omega.{arith}
 use lib.ListN.{length, take, drop, drop-of-length-le, length-take}
+use Rattle.limits.specs.Limits.{unstatedWidth}
 use Rattle.layout_rules.specs.Matrix.{longestRecord, matrixRefusal}
 use Rattle.layout_rules.specs.Places.{enoughBytes}
 use Rattle.layout_rules.proofs.LittleEndian.{AreBytes}
 use Rattle.compile_rules.specs.declared.CompileAnswer.{CompileAnswer}
-use Rattle.compile_rules.specs.Compile.{compileAnswer, compileBuffer, compileAccepted, compiledBytes}
-use Rattle.compile_rules.proofs.Compiled.{room-refused, room-accepted, compiled-length}
+use Rattle.compile_rules.specs.Compile.{inputRefusal, compileAnswer, compileBuffer, compileAccepted, compiledBytes}
+use Rattle.compile_rules.proofs.Compiled.{input-inside, room-refused, room-accepted, compiled-length}
 use Rattle.netlist_rules.specs.declared.CheckAnswer.{CheckAnswer}
 use Rattle.netlist_rules.specs.Check.{checkAnswer}
 use Rattle.bank_rules.specs.Claim.{bytesWritten}
@@ -29,26 +30,29 @@ unfolding outcomeText
 refused-text bytes r e = sym (rw (e, outcomeText))
 
 compiled-text : (bytes : List ℕ) → matrixRefusal bytes ≡ 0
-    → checkedText (checkAnswer bytes (compiledBytes bytes)) (compileAccepted bytes .operations) ≡ outcomeText bytes
+    → checkedText (checkAnswer bytes (compiledBytes unstatedWidth bytes)) (compileAccepted unstatedWidth bytes .operations) ≡ outcomeText bytes
 unfolding outcomeText
 compiled-text bytes e = sym (rw (e, outcomeText))
 
 module _ (bytes : List ℕ) (all : AreBytes bytes) (old after : List ℕ) (answer : CompileAnswer)
-    (room : enoughBytes ≡ length old) (answered : answer ≡ compileAnswer bytes (length old)) (left : after ≡ compileBuffer bytes old) where
+    (room : enoughBytes ≡ length old) (answered : answer ≡ compileAnswer unstatedWidth bytes (length old)) (left : after ≡ compileBuffer unstatedWidth bytes old) where
   pub outcome-refused : (answer .refusal ≡ 0 → ⊥) → refusedLine (answer .refusal) (answer .place) ≡ outcomeText bytes
   outcome-refused no-zero =
-      let is = room-refused bytes all (length old) (omega arith) answer answered no-zero in
-      ap (λ (a : CompileAnswer). refusedLine (a .refusal) (a .place)) (is .2) ∙ refused-text bytes (is .0) (is .1)
+      let is = room-refused unstatedWidth bytes all (length old) (omega arith) answer answered no-zero in
+      ap (λ (a : CompileAnswer). refusedLine (a .refusal) (a .place)) (is .2) ∙ refused-text bytes (is .0) (sym (input-inside unstatedWidth bytes refl) ∙ is .1)
 
   module _ (is-zero : answer .refusal ≡ 0) where
+    accepted : inputRefusal unstatedWidth bytes ≡ 0
+    accepted = room-accepted unstatedWidth bytes all (length old) (omega arith) answer answered is-zero .0
+
     taken : matrixRefusal bytes ≡ 0
-    taken = room-accepted bytes all (length old) (omega arith) answer answered is-zero .0
+    taken = sym (input-inside unstatedWidth bytes refl) ∙ accepted
 
-    takes : answer ≡ compileAccepted bytes
-    takes = room-accepted bytes all (length old) (omega arith) answer answered is-zero .1
+    takes : answer ≡ compileAccepted unstatedWidth bytes
+    takes = room-accepted unstatedWidth bytes all (length old) (omega arith) answer answered is-zero .1
 
-    its-bytes : take (answer .written) after ≡ compiledBytes bytes
-    its-bytes = ap₂ bytesWritten answered left ∙ bytes-written bytes old taken (omega (arith, compiled-length bytes all taken))
+    its-bytes : take (answer .written) after ≡ compiledBytes unstatedWidth bytes
+    its-bytes = ap₂ bytesWritten answered left ∙ bytes-written unstatedWidth bytes old accepted (omega (arith, compiled-length unstatedWidth bytes all taken))
 
     pub netlist-part : answer .written ≤ length after
     netlist-part = omega (arith, ap (λ (a : CompileAnswer). a .written) takes, ap length its-bytes, length-take (answer .written) after)

@@ -3,6 +3,7 @@
 use Prim.Native.Nat.{ℕ, zero, suc, _+_, _*_, _%_, _^_}
 use mathlib.Core.Bool.{Bool, true, false}
 use mathlib.Core.List.{List, [], _++_}
+use Rattle.limits.specs.Limits.{unstatedWidth}
 use Rattle.layout_rules.specs.Matrix.{matrixRefusal}
 use Rattle.compile_rules.specs.Compile.{compiledBytes, compileAccepted}
 use Rattle.netlist_rules.specs.declared.CheckAnswer.{CheckAnswer}
@@ -19,12 +20,13 @@ abbrev pub checkedText : CheckAnswer → ℕ → List ℕ
 checkedText answer operations =
     elim (answer .refusal) [ suc r ↦ refusedLine (suc r) (answer .place) | zero ↦ ascii "operations " ++ number operations ++ ascii "\n" ]
 
--- a matrix record is compiled, and the netlist checked against it; compile has room for every netlist, so it refuses with one of 1 to 5
+-- a matrix record is compiled for samples of 16 bits, and the netlist checked against it; compile has room for every netlist, so it
+-- refuses with one of 1 to 5
 unfoldable pub outcomeText : List ℕ → List ℕ
 outcomeText bytes =
     elim (matrixRefusal bytes) [
       | suc r ↦ refusedLine (suc r) 0
-      | zero ↦ checkedText (checkAnswer bytes (compiledBytes bytes)) (compileAccepted bytes .operations)
+      | zero ↦ checkedText (checkAnswer bytes (compiledBytes unstatedWidth bytes)) (compileAccepted unstatedWidth bytes .operations)
     ]
 
 -- "seed S operations N", or "seed S refused N at P"; generate has room for every record, so it refuses no 8 by 8 bank (`always-room` in

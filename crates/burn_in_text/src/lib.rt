@@ -2,6 +2,7 @@
 // and `text`.
 use layout_matrix::LONGEST_RECORD;
 use layout_records::places::no_netlist;
+use limits::UNSTATED_WIDTH;
 ghost use mathlib.Core.Path.{_≡_};
 ghost use Prim.Native.Nat.{_*_, _≤_};
 ghost use lib.ListN.{length};
@@ -25,14 +26,14 @@ fn no_record() -> [u8; LONGEST_RECORD]
     [0; LONGEST_RECORD]
 }
 
-// What compile and check say of a matrix record.
+// What compile, for samples of 16 bits, and check say of a matrix record.
 fn write_outcome(matrix: &[u8], text: &mut [u8]) -> usize
     requires { ⌜ longestRefusedLine ≤ length (now text) ⌝ }
     ensures { λ r. ⌜ Wrote (now (text .entry)) (now (text .exit)) r (outcomeText (now (matrix .entry))) ⌝ }
     ensures { λ r. ⌜ r ≤ longestRefusedLine ⌝ }
 {
     let mut netlist = no_netlist();
-    let compiled = compile::compile(matrix, &mut netlist);
+    let compiled = compile::compile(matrix, UNSTATED_WIDTH, &mut netlist);
     if compiled.refusal != 0 {
         return text::write_refused(compiled.refusal, compiled.place, text);
     }

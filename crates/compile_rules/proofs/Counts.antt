@@ -9,7 +9,7 @@ use lib.Dec.{eqb}
 use lib.ListN.{length, length-append, length-map}
 use Rattle.layout_rules.specs.declared.Operation.{Operation}
 use Rattle.layout_rules.specs.declared.Output.{Output}
-use Rattle.layout_rules.specs.Records.{headLength, netlistBytes}
+use Rattle.layout_rules.specs.Records.{headLengthOf, netlistBytes}
 use Rattle.layout_rules.specs.Places.{netlistLength}
 use Rattle.layout_rules.proofs.Lengths.{length-netlist}
 use Rattle.elimination_rules.specs.declared.Divisor.{Divisor}
@@ -92,6 +92,7 @@ unfolding netlistOf
 netlist-outputs s m n rows e h = length-map (outputsOf n e) (outputWithWidth s n (operationsOf n e)) ∙ length-outputs n rows e h
 
 pub netlist-length : (s m n : ℕ) (rows : List Row) (e : Eliminated) → Stepped n rows e
-    → length (netlistBytes (netlistOf s m n e)) ≡ netlistLength headLength (length (operationsOf n e)) (length rows)
+    → length (netlistBytes (netlistOf s m n e)) ≡ netlistLength (headLengthOf s) (length (operationsOf n e)) (length rows)
+unfolding netlistOf
 netlist-length s m n rows e h =
     omega (arith, length-netlist (netlistOf s m n e), netlist-operations s m n e, netlist-outputs s m n rows e h)

@@ -14,4 +14,5 @@ pub mod NetlistDepth
 pub mod Signs
 pub mod Negated
 pub mod CompileTests
+pub mod SampleWidths
 pub mod Marked

@@ -1,5 +1,5 @@
--- Document 01, "compiled ones at most 35": a compiled width is at most the number of positions, the sample width and the bits
--- that the number of columns needs, added up, after any sequence of steps.
+-- Document 01, "compiled ones at most 19 more than the sample width": a compiled width is at most the number of
+-- positions, the sample width and the bits that the number of columns needs, added up, after any sequence of steps.
 -- Assumes nothing.
 use Prim.Native.Nat.{ℕ, suc, _+_, _*_, _-_, _^_, _≤_, _<_}
 use mathlib.Core.Path.{_≡_, sym, ap, _∙_}

@@ -82,9 +82,9 @@ module _ (bytes others : List ℕ) (all : AreBytes bytes) (accepted : matrixRefu
   other-elimination : eliminationOf others ≡ negatedElimination e
   other-elimination = ap₂ (matrixElimination positions) same-columns of-negated ∙ matrix-elimination-negated positions n (matrix bytes)
 
-  pub answer-negated : SameCost (compileAccepted others) (compileAccepted bytes)
+  pub answer-negated : (s : ℕ) → SameCost (compileAccepted s others) (compileAccepted s bytes)
   unfolding netlistOf
-  answer-negated =
+  answer-negated s =
       let in-columns : Columns n (matrix bytes) = rows-columns positions n (matrix bytes) (limits bytes all accepted .coefficients) in
       record {
         plain = ap (λ (m : List (List ℤ)). plainCount (matrixRows positions m)) of-negated

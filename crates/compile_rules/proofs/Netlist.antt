@@ -6,7 +6,7 @@ use mathlib.Core.Path.{_≡_, refl, sym, ap, _∙_, subst}
 use mathlib.Core.List.{List, [], _∷_, _++_, map}
 use native.Mathlib.Omega.{arith}
 use lib.ListN.{length}
-use Rattle.limits.specs.Size.{BankSize}
+use Rattle.limits.specs.Size.{BankSize, SampleWidth}
 use Rattle.limits.proofs.Size.{rows-have-inputs}
 use Rattle.layout_rules.specs.declared.Operation.{Operation}
 use Rattle.layout_rules.specs.declared.Output.{Output}
@@ -100,13 +100,16 @@ module _ (l : Limits) (n : ℕ) (rows : List Row) (e : Eliminated) (some : 1 ≤
       (both-outputs (OutputOperand l (n + length os)) (λ o. width (l .sample) (outputForm n os o) ≤ l .widest) (outputsOf n e)
       (outputs-in-range l n rows e some inputs w steps) (narrow .outputs))
 
-  pub compiled-netlist : (m : ℕ) → BankSize m n → length rows ≡ m → plainCount rows ≤ l .most → IsNetlist l (netlistOf (l .sample) m n e)
+  pub compiled-netlist : (m : ℕ) → SampleWidth (l .sample) → BankSize m n → length rows ≡ m → plainCount rows ≤ l .most
+      → IsNetlist l (netlistOf (l .sample) m n e)
   unfolding netlistOf recorded
-  compiled-netlist m size one-per-row plain = record {
+  compiled-netlist m bits size one-per-row plain = record {
     head = record {
       limits = size;
       few = omega (arith, operations-fewer n rows e steps);
       none = λ z. no-operations n rows e steps (one-per-row ∙ z);
+      width = bits;
+      samples = refl;
     };
     count = netlist-operations (l .sample) m n e;
     one-per-row = netlist-outputs (l .sample) m n rows e steps ∙ one-per-row;

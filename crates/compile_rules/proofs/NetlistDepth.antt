@@ -10,7 +10,7 @@ use Rattle.layout_rules.specs.declared.Operation.{Operation}
 use Rattle.layout_rules.specs.declared.Output.{Output}
 use Rattle.layout_rules.specs.Matrix.{matrixRefusal, matrix, rows, columns}
 use Rattle.layout_rules.proofs.LittleEndian.{AreBytes}
-use Rattle.limits.specs.Limits.{positions, sampleWidth}
+use Rattle.limits.specs.Limits.{positions}
 use Rattle.board_rules.specs.Machine.{depth}
 use Rattle.board_rules.proofs.DepthLaws.{depths-append}
 use Rattle.elimination_rules.specs.Rows.{Row, WellFormed, EachRow, matrixRows}
@@ -70,10 +70,11 @@ none-shallower p s m n rows e inputs w stepped =
     }
 
 -- of the netlist that compile writes
-pub compiled-none-shallower : (bytes : List ℕ) → AreBytes bytes → matrixRefusal bytes ≡ 0 → NoneShallower (columns bytes) (eliminationOf bytes) (compiledNetlist bytes)
-compiled-none-shallower bytes all accepted =
+pub compiled-none-shallower : (s : ℕ) (bytes : List ℕ) → AreBytes bytes → matrixRefusal bytes ≡ 0
+    → NoneShallower (columns bytes) (eliminationOf bytes) (compiledNetlist s bytes)
+compiled-none-shallower s bytes all accepted =
     let within = limits bytes all accepted in
-    none-shallower positions sampleWidth (rows bytes) (columns bytes) (matrixRows positions (matrix bytes)) (eliminationOf bytes)
+    none-shallower positions s (rows bytes) (columns bytes) (matrixRows positions (matrix bytes)) (eliminationOf bytes)
     (compiled-inputs bytes all accepted)
     (matrix-well-formed positions (columns bytes) (matrix bytes) (rows-columns positions (columns bytes) (matrix bytes) (within .coefficients)))
     (steps bytes all accepted)

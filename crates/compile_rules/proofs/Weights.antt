@@ -1,6 +1,6 @@
--- Document 01, "Netlist and board machine", the bound behind "compiled ones at most 35": every coefficient of every entry and output is
--- at most the weight of a row of the matrix in its column, which is at most a third of the power of two above the digits (43,690 for 16
--- positions), after any sequence of steps.
+-- Document 01, "Netlist and board machine", the bound behind "compiled ones at most 19 more than the sample width": every coefficient
+-- of every entry and output is at most the weight of a row of the matrix in its column, which is at most a third of the power of two
+-- above the digits (43,690 for 16 positions), after any sequence of steps.
 -- Assumes nothing.
 use Prim.Native.Nat.{ℕ, suc, _+_, _*_, _/_, _^_, _≤_, _<_}
 use mathlib.Core.Path.{_≡_, refl, sym, ap, ap₂, _∙_, subst}

@@ -1,11 +1,12 @@
 -- Document 01, "Netlist and board machine" and "Why a record was declined": the netlist of a matrix, and compile's answer.
 -- Assumes nothing.
 use Prim.Native.Nat.{ℕ, zero, suc}
-use mathlib.Core.Bool.{true, false}
+use mathlib.Core.Bool.{true, false, cond}
 use mathlib.Core.List.{List, [], _∷_, _++_, map}
 use lib.Dec.{ltb, eqb}
 use lib.ListN.{length, drop}
-use Rattle.limits.specs.Limits.{positions, sampleWidth}
+use Rattle.limits.specs.Limits.{positions}
+use Rattle.limits.specs.Size.{sampleWidthOutside}
 use Rattle.elimination_rules.specs.Rows.{matrixRows, plainCount}
 use Rattle.elimination_rules.specs.Elimination.{Eliminated, matrixElimination}
 use Rattle.layout_rules.specs.declared.Operation.{Operation}
@@ -46,12 +47,13 @@ withWidths s n all symbol (o ∷ os) = withWidth (width s (entryForm n all symbo
 abbrev pub outputWithWidth : ℕ → ℕ → List Operation → Output → Output
 outputWithWidth s n os o = record { sign = o .sign; symbol = o .symbol; shift = o .shift; width = width s (outputForm n os o) }
 
+-- for samples of s bits
 unfoldable pub netlistOf : ℕ → ℕ → ℕ → Eliminated → Netlist
 unfolding operationsOf outputsOf withWidths
 netlistOf s m n e =
     let os = operationsOf n e in
     record {
-      head = record { m = m; n = n; operations = length os };
+      head = record { m = m; n = n; operations = length os; width = s };
       operations = withWidths s n os n os;
       outputs = map (outputWithWidth s n os) (outputsOf n e);
       totals = record { operations = length os; depth = depth n os };
@@ -71,42 +73,47 @@ compileRefused r place =
 abbrev pub eliminationOf : List ℕ → Eliminated
 eliminationOf bytes = matrixElimination positions (columns bytes) (matrix bytes)
 
-abbrev pub compiledNetlist : List ℕ → Netlist
-compiledNetlist bytes = netlistOf sampleWidth (rows bytes) (columns bytes) (eliminationOf bytes)
+-- of the matrix's bytes, for samples of s bits
+abbrev pub compiledNetlist : ℕ → List ℕ → Netlist
+compiledNetlist s bytes = netlistOf s (rows bytes) (columns bytes) (eliminationOf bytes)
 
-abbrev pub compiledBytes : List ℕ → List ℕ
-compiledBytes bytes = netlistBytes (compiledNetlist bytes)
+abbrev pub compiledBytes : ℕ → List ℕ → List ℕ
+compiledBytes s bytes = netlistBytes (compiledNetlist s bytes)
 
-abbrev pub compileAccepted : List ℕ → CompileAnswer
-compileAccepted bytes =
+abbrev pub compileAccepted : ℕ → List ℕ → CompileAnswer
+compileAccepted s bytes =
     record {
       refusal = 0;
       place = 0;
-      written = length (compiledBytes bytes);
-      operations = compiledNetlist bytes .head .operations;
+      written = length (compiledBytes s bytes);
+      operations = compiledNetlist s bytes .head .operations;
       plain = plainCount (matrixRows positions (matrix bytes));
       divisors = length (eliminationOf bytes .divisors);
       replacements = eliminationOf bytes .replacements;
-      depth = compiledNetlist bytes .totals .depth;
-      negated = negatedOutputs (compiledNetlist bytes .outputs);
+      depth = compiledNetlist s bytes .totals .depth;
+      negated = negatedOutputs (compiledNetlist s bytes .outputs);
     }
 
--- 1 to 5, then 6: the output buffer, of so many bytes, is shorter than the netlist
-unfoldable pub compileAnswer : List ℕ → ℕ → CompileAnswer
-compileAnswer bytes room =
-    elim (matrixRefusal bytes) [
+-- of what compile is given to read: 20, "the sample width for compile is not 8 to 24", tested first; then 1 to 5
+unfoldable pub inputRefusal : ℕ → List ℕ → ℕ
+inputRefusal s bytes = cond (sampleWidthOutside s) 20 (matrixRefusal bytes)
+
+-- then 6: the output buffer, of so many bytes, is shorter than the netlist
+unfoldable pub compileAnswer : ℕ → List ℕ → ℕ → CompileAnswer
+compileAnswer s bytes room =
+    elim (inputRefusal s bytes) [
       | suc r ↦ compileRefused (suc r) 0
-      | zero ↦ elim (ltb room (length (compiledBytes bytes))) [ true ↦ compileRefused 6 0 | false ↦ compileAccepted bytes ]
+      | zero ↦ elim (ltb room (length (compiledBytes s bytes))) [ true ↦ compileRefused 6 0 | false ↦ compileAccepted s bytes ]
     ]
 
 -- the buffer afterwards: the netlist's bytes followed by the old bytes, or the old bytes where compile refuses
-unfoldable pub compileBuffer : List ℕ → List ℕ → List ℕ
-compileBuffer bytes buffer =
-    elim (matrixRefusal bytes) [
+unfoldable pub compileBuffer : ℕ → List ℕ → List ℕ → List ℕ
+compileBuffer s bytes buffer =
+    elim (inputRefusal s bytes) [
       | suc r ↦ buffer
       | zero ↦
-          elim (ltb (length buffer) (length (compiledBytes bytes))) [
+          elim (ltb (length buffer) (length (compiledBytes s bytes))) [
             | true ↦ buffer
-            | false ↦ compiledBytes bytes ++ drop (length (compiledBytes bytes)) buffer
+            | false ↦ compiledBytes s bytes ++ drop (length (compiledBytes s bytes)) buffer
           ]
     ]

@@ -5,7 +5,7 @@ use mathlib.Core.Path.{_≡_}
 use mathlib.Core.List.{List, [], _∷_}
 use lib.IntN.{ℤ, pos, negsuc}
 use lib.ListN.{replicate}
-use Rattle.limits.specs.Limits.{positions, sampleWidth}
+use Rattle.limits.specs.Limits.{positions, unstatedWidth}
 use Rattle.digits.specs.Marked.{MarkedDigits}
 use Rattle.elimination_rules.specs.Rows.{matrixRows, plainCount}
 use Rattle.elimination_rules.specs.Elimination.{matrixElimination}
@@ -14,12 +14,12 @@ use Rattle.layout_rules.specs.declared.Operation.{Operation}
 use Rattle.layout_rules.specs.declared.Output.{Output}
 use Rattle.layout_rules.specs.Records.{Netlist, netlistWithoutRows}
 use Rattle.board_rules.specs.Marked.{MarkedWidths, sumOfTwo, negatedSample, sumOfEight, negatedSum}
-use Rattle.compile_rules.specs.Compile.{netlistOf, negatedOutputs, compiledNetlist, compiledBytes, compileAnswer}
+use Rattle.compile_rules.specs.Compile.{netlistOf, negatedOutputs, compileRefused, compiledNetlist, compiledBytes, compileAnswer}
 use Rattle.compile_rules.specs.declared.CompileAnswer.{CompileAnswer}
 
--- the netlist of a matrix of m rows and n columns
+-- the netlist of a matrix of m rows and n columns, for samples of 16 bits
 abbrev pub netlistFor : ℕ → ℕ → List (List ℤ) → Netlist
-netlistFor m n matrix = netlistOf sampleWidth m n (matrixElimination positions n matrix)
+netlistFor m n matrix = netlistOf unstatedWidth m n (matrixElimination positions n matrix)
 
 -- 0A 00 01 00 01 02 03 00 FD FF (row 3, −3)
 abbrev pub threeMinusThreeRecord : List ℕ
@@ -35,6 +35,16 @@ threeMinusThreeNetlist =
     ∷ 0x08 ∷ 0x00 ∷ 0x05 ∷ 0x00 ∷ 0x02 ∷ 0x00 ∷ 0x02 ∷ 0x00
     ∷ []
 
+-- for samples of 12 bits the head states 12, 0C, and the widths are 13, 15 and 15
+abbrev pub threeMinusThreeAtTwelve : List ℕ
+threeMinusThreeAtTwelve =
+    0x09 ∷ 0x00 ∷ 0x06 ∷ 0x00 ∷ 0x01 ∷ 0x02 ∷ 0x02 ∷ 0x00 ∷ 0x0C
+    ∷ 0x0C ∷ 0x00 ∷ 0x03 ∷ 0x00 ∷ 0x01 ∷ 0x00 ∷ 0x00 ∷ 0x00 ∷ 0x01 ∷ 0x00 ∷ 0x00 ∷ 13
+    ∷ 0x0C ∷ 0x00 ∷ 0x03 ∷ 0x00 ∷ 0x01 ∷ 0x02 ∷ 0x00 ∷ 0x02 ∷ 0x02 ∷ 0x00 ∷ 0x00 ∷ 15
+    ∷ 0x09 ∷ 0x00 ∷ 0x04 ∷ 0x00 ∷ 0x00 ∷ 0x03 ∷ 0x00 ∷ 0x00 ∷ 15
+    ∷ 0x08 ∷ 0x00 ∷ 0x05 ∷ 0x00 ∷ 0x02 ∷ 0x00 ∷ 0x02 ∷ 0x00
+    ∷ []
+
 -- operations 2 plain 3 divisors 1 replacements 2 depth 2, no output minus
 abbrev pub threeMinusThreeAnswer : CompileAnswer
 threeMinusThreeAnswer =
@@ -43,6 +53,11 @@ threeMinusThreeAnswer =
 -- the netlist's bytes and the answer of no bytes
 abbrev pub noBytesNetlist : List ℕ
 noBytesNetlist = 0x08 ∷ 0x00 ∷ 0x02 ∷ 0x00 ∷ 0x00 ∷ 0x00 ∷ 0x00 ∷ 0x00 ∷ 0x08 ∷ 0x00 ∷ 0x05 ∷ 0x00 ∷ 0x00 ∷ 0x00 ∷ 0x00 ∷ 0x00 ∷ []
+
+-- and for samples of 12 bits, 17 bytes
+abbrev pub noBytesAtTwelve : List ℕ
+noBytesAtTwelve =
+    0x09 ∷ 0x00 ∷ 0x06 ∷ 0x00 ∷ 0x00 ∷ 0x00 ∷ 0x00 ∷ 0x00 ∷ 0x0C ∷ 0x08 ∷ 0x00 ∷ 0x05 ∷ 0x00 ∷ 0x00 ∷ 0x00 ∷ 0x00 ∷ 0x00 ∷ []
 
 abbrev pub noBytesAnswer : CompileAnswer
 noBytesAnswer =
@@ -94,7 +109,8 @@ pub record MarkedBanks : Type 0 where
   -- rows 1 1 1 1, 2 1 −1 −2, 1 −1 −1 1, 1 −2 2 −1: 8 operations, depth 2
   pub operations-four : netlistFor 4 4 fourByFour .head .operations ≡ 8
   pub depth-four : netlistFor 4 4 fourByFour .totals .depth ≡ 2
-  -- width of x0 + x1 is 17, of −x0 17, of eight times −32,768 summed 35; and these are what such matrices are compiled to
+  -- width of x0 + x1 is 17, of −x0 17, of eight times −32,768 summed 35; 13, 13, 31 for 12 bits and 25, 25, 43 for 24; and these are
+  -- what such matrices are compiled to
   pub widths : MarkedWidths
   pub compiled-sum : netlistFor 1 2 ((pos 1 ∷ pos 1 ∷ []) ∷ []) .operations ≡ sumOfTwo
   pub operations-negated : netlistFor 1 1 ((negsuc 0 ∷ []) ∷ []) .operations ≡ []
@@ -111,9 +127,14 @@ pub record MarkedBanks : Type 0 where
   -- rows 1 1 1 1 1, 1 1 1 0 0: 7, of depth 1, comes before 6, of depth 2
   pub compiled-shallower : netlistFor 2 5 fiveAndThree .operations ≡ shallowerFirst
   -- row 3, −3
-  pub bytes-three : compiledBytes threeMinusThreeRecord ≡ threeMinusThreeNetlist
-  pub answer-three : compileAnswer threeMinusThreeRecord 49 ≡ threeMinusThreeAnswer
-  -- no bytes
-  pub compiled-none : compiledNetlist [] ≡ netlistWithoutRows
-  pub bytes-none : compiledBytes [] ≡ noBytesNetlist
-  pub answer-none : compileAnswer [] 16 ≡ noBytesAnswer
+  pub bytes-three : compiledBytes unstatedWidth threeMinusThreeRecord ≡ threeMinusThreeNetlist
+  pub bytes-three-twelve : compiledBytes 12 threeMinusThreeRecord ≡ threeMinusThreeAtTwelve
+  pub answer-three : compileAnswer unstatedWidth threeMinusThreeRecord 49 ≡ threeMinusThreeAnswer
+  -- no bytes, whatever the sample width
+  pub compiled-none : (s : ℕ) → compiledNetlist s [] ≡ netlistWithoutRows s
+  pub bytes-none : compiledBytes unstatedWidth [] ≡ noBytesNetlist
+  pub bytes-none-twelve : compiledBytes 12 [] ≡ noBytesAtTwelve
+  pub answer-none : compileAnswer unstatedWidth [] 16 ≡ noBytesAnswer
+  -- the sample widths 7 and 25, before anything else is tested
+  pub answer-seven : compileAnswer 7 (0x06 ∷ []) 0 ≡ compileRefused 20 0
+  pub answer-twenty-five : compileAnswer 25 (0x06 ∷ []) 0 ≡ compileRefused 20 0

@@ -8,8 +8,7 @@ use native.Mathlib.Omega.{arith}
 use lib.IntN.{ℤ, pos}
 use lib.ListN.{length, getD, take, drop}
 use lib.Seq.{take-append-seam}
-use Rattle.limits.specs.Limits.{sampleWidth}
-use Rattle.limits.specs.Size.{SizeLimits}
+use Rattle.limits.specs.Size.{SizeLimits, SampleWidth}
 use Rattle.limits.proofs.Size.{size-inside}
 use Rattle.layout_rules.specs.Matrix.{rows, columns, matrix, matrixRefusal, signedWord}
 use Rattle.layout_rules.proofs.LittleEndian.{AreBytes}
@@ -17,7 +16,7 @@ use Rattle.layout_rules.proofs.MatrixRecord.{matrix-record-bytes, matrix-record
 use Rattle.layout_rules.proofs.MatrixRows.{matrix-at}
 use Rattle.board_rules.specs.Width.{Samples}
 use Rattle.compile_rules.specs.Compile.{compiledBytes, compileAccepted, compileAnswer, compileBuffer}
-use Rattle.compile_rules.proofs.Compiled.{answer-accepted}
+use Rattle.compile_rules.proofs.Compiled.{input-accepted, answer-accepted}
 use Rattle.netlist_rules.specs.Check.{checked, checkAnswer}
 use Rattle.bank_rules.specs.Claim.{MatrixWithinLimits, Claim, answersOf, outputsAfter}
 use Rattle.bank_rules.proofs.Claim.{within-limits, compiled-checked, claim-holds}
@@ -66,23 +65,26 @@ module _ (m n seed : ℕ) where
     pub generated-within : MatrixWithinLimits record-bytes
     generated-within = within-limits record-bytes generated-bytes generated-accepted
 
-    pub generated-compiles : (room : ℕ) → length (compiledBytes record-bytes) ≤ room → compileAnswer record-bytes room ≡ compileAccepted record-bytes
-    generated-compiles room = answer-accepted record-bytes room generated-accepted
+    -- for every sample width
+    module _ (s : ℕ) (bits : SampleWidth s) where
+      pub generated-compiles : (room : ℕ) → length (compiledBytes s record-bytes) ≤ room → compileAnswer s record-bytes room ≡ compileAccepted s record-bytes
+      generated-compiles room = answer-accepted s record-bytes room (input-accepted s record-bytes bits generated-accepted)
 
-    pub generated-checked : checkAnswer record-bytes (compiledBytes record-bytes) ≡ checked 0 0
-    generated-checked = compiled-checked record-bytes generated-within
+      pub generated-checked : checkAnswer record-bytes (compiledBytes s record-bytes) ≡ checked 0 0
+      generated-checked = compiled-checked s bits record-bytes generated-within
 
-    -- demand 3, for every buffer long enough, every vector of samples and one output for each row
-    pub generated-claim : (buffer : List ℕ) (samples outputs : List ℤ) → length (compiledBytes record-bytes) ≤ length buffer
-        → Samples sampleWidth n samples → length outputs ≡ m
-        → Claim record-bytes (compileBuffer record-bytes buffer) samples (outputsAfter record-bytes buffer samples outputs) (answersOf record-bytes buffer samples outputs)
-    generated-claim buffer samples outputs room vector per-row =
-        claim-holds record-bytes buffer samples outputs record {
-          within-limits = generated-within;
-          long-enough = room;
-          vector = subst (λ (k : ℕ). Samples sampleWidth k samples) (sym generated-columns) vector;
-          one-per-row = per-row ∙ sym generated-rows;
-        }
+      -- demand 3, for every buffer long enough, every vector of samples and one output for each row
+      pub generated-claim : (buffer : List ℕ) (samples outputs : List ℤ) → length (compiledBytes s record-bytes) ≤ length buffer
+          → Samples s n samples → length outputs ≡ m
+          → Claim s record-bytes (compileBuffer s record-bytes buffer) samples (outputsAfter s record-bytes buffer samples outputs) (answersOf s record-bytes buffer samples outputs)
+      generated-claim buffer samples outputs room vector per-row =
+          claim-holds s record-bytes buffer samples outputs record {
+            within-limits = generated-within;
+            sample-width = bits;
+            long-enough = room;
+            vector = subst (λ (k : ℕ). Samples s k samples) (sym generated-columns) vector;
+            one-per-row = per-row ∙ sym generated-rows;
+          }
 
 -- ---- what generate writes where it accepts
 

@@ -11,6 +11,11 @@ pub const HEAD_KIND: u16 = 2;
 
 pub const HEAD_LENGTH: usize = 8;
 
+// The head that states a width.
+pub const WIDTH_HEAD_KIND: u16 = 6;
+
+pub const WIDTH_HEAD_LENGTH: usize = 9;
+
 pub const OPERATION_KIND: u16 = 3;
 
 pub const OPERATION_LENGTH: usize = 12;
@@ -23,8 +28,8 @@ pub const TOTALS_KIND: u16 = 5;
 
 pub const TOTALS_LENGTH: usize = 8;
 
-// "6,136 bytes always suffice."
-pub const ENOUGH_BYTES: usize = HEAD_LENGTH
+// "6,137 bytes always suffice."
+pub const ENOUGH_BYTES: usize = WIDTH_HEAD_LENGTH
     + OPERATION_LENGTH * MAX_OPERATIONS
     + OUTPUT_LENGTH * MAX_ROWS
     + TOTALS_LENGTH;

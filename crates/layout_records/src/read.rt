@@ -1,26 +1,14 @@
-// Document 01, "Netlist and board machine": a reader of the fields of each kind of record, at its place in bytes that hold the record.
+// Document 01, "Netlist and board machine": a reader of the fields of each kind of record but the head, at its place in bytes that hold the record.
 // A record's payload starts 4 bytes behind its place.
 use super::little_endian::word_at;
-use layout_rules::Head;
 use layout_rules::Operation;
 use layout_rules::Output;
 use layout_rules::Totals;
 ghost use mathlib.Core.Path.{_≡_};
 ghost use Prim.Native.Nat.{_+_, _≤_};
 ghost use lib.ListN.{length};
-ghost use Rattle.layout_rules.specs.Records.{headLength, operationLength, operationOf, outputLength, outputOf, totalsLength};
-ghost use Rattle.layout_rules.specs.Places.{payloadOf, headAt, totalsAt};
-
-pub fn head_at(bytes: &[u8]) -> Head
-    requires { ⌜ headLength ≤ length (now bytes) ⌝ }
-    ensures { λ r. ⌜ r ≡ headAt (now (bytes .entry)) ⌝ }
-{
-    Head {
-        m: bytes[4],
-        n: bytes[5],
-        operations: word_at(bytes, 6),
-    }
-}
+ghost use Rattle.layout_rules.specs.Records.{operationLength, operationOf, outputLength, outputOf, totalsLength};
+ghost use Rattle.layout_rules.specs.Places.{payloadOf, totalsAt};
 
 pub fn operation_at(bytes: &[u8], place: usize) -> Operation
     requires { ⌜ place + operationLength ≤ length (now bytes) ⌝ }

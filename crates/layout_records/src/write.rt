@@ -1,14 +1,11 @@
-// Document 01, "Netlist and board machine": a writer for each kind of record. Each is lent the part of the output buffer
+// Document 01, "Netlist and board machine": a writer for each kind of record but the head. Each is lent the part of the output buffer
 // that starts at the current place, and leaves what stands behind its record as it was.
-use super::places::HEAD_KIND;
-use super::places::HEAD_LENGTH;
 use super::places::OPERATION_KIND;
 use super::places::OPERATION_LENGTH;
 use super::places::OUTPUT_KIND;
 use super::places::OUTPUT_LENGTH;
 use super::places::TOTALS_KIND;
 use super::places::TOTALS_LENGTH;
-use layout_rules::Head;
 use layout_rules::Operation;
 use layout_rules::Output;
 use layout_rules::Totals;
@@ -16,24 +13,7 @@ ghost use mathlib.Core.Path.{_≡_};
 ghost use mathlib.Core.List.{_++_};
 ghost use Prim.Native.Nat.{_≤_};
 ghost use lib.ListN.{length, drop};
-ghost use Rattle.layout_rules.specs.Records.{headLength, headBytes, operationLength, operationBytes, outputLength, outputBytes, totalsLength, totalsBytes};
-
-pub fn write_head(buf: &mut [u8], head: Head)
-    requires { ⌜ headLength ≤ length (now buf) ⌝ }
-    ensures { λ _. ⌜ now (buf .exit) ≡ headBytes head ++ drop headLength (now (buf .entry)) ⌝ }
-{
-    let record = [
-        HEAD_LENGTH as u8,
-        0,
-        HEAD_KIND as u8,
-        0,
-        head.m,
-        head.n,
-        (head.operations % 256) as u8,
-        (head.operations / 256) as u8,
-    ];
-    bytes::copy(&record, buf);
-}
+ghost use Rattle.layout_rules.specs.Records.{operationLength, operationBytes, outputLength, outputBytes, totalsLength, totalsBytes};
 
 pub fn write_operation(buf: &mut [u8], operation: Operation)
     requires { ⌜ operationLength ≤ length (now buf) ⌝ }

@@ -3,13 +3,17 @@
 -- Assumes nothing.
 use Prim.Native.Nat.{ℕ, zero, suc, _+_, _*_, _-_, _/_, _%_, _<_}
 use mathlib.Core.Path.{_≡_, refl, sym, ap, ap₂, _∙_}
-use mathlib.Core.List.{List, [], _∷_}
+use mathlib.Core.Bool.{Bool, true, false, cond}
+use mathlib.Core.List.{List, [], _∷_, _++_}
 use native.Mathlib.Omega.{arith}
+use lib.Dec.{eqb}
 use lib.ListN.{length, getD, drop}
 use lib.Seq.{getD-take, getD-drop}
+use borrow.Author.Tests.{eqb-true}
+use Rattle.limits.specs.Limits.{unstatedWidth}
 use Rattle.layout_rules.proofs.LittleEndian.{AreBytes, word-of, low-byte, high-byte}
-use Rattle.layout_rules.specs.Bytes.{word}
-use Rattle.layout_rules.specs.Records.{headPayload, headOf, operationPayload, operationOf, outputPayload, outputOf, totalsPayload, totalsOf}
+use Rattle.layout_rules.specs.Bytes.{littleEndian, word}
+use Rattle.layout_rules.specs.Records.{headLength, widthHeadLength, headLengthOf, headPayload, headOf, operationPayload, operationOf, outputPayload, outputOf, totalsPayload, totalsOf}
 use Rattle.layout_rules.specs.Places.{payloadOf}
 use Rattle.layout_rules.specs.declared.Head.{Head}
 use Rattle.layout_rules.specs.declared.Operation.{Operation}
@@ -18,9 +22,20 @@ use Rattle.layout_rules.specs.declared.Totals.{Totals}
 
 -- ---- a written payload reads back
 
+-- a head's bytes with the width stated or not
+stating : Head → Bool → List ℕ
+stating h unstated = h .m ∷ h .n ∷ littleEndian (h .operations) ++ cond unstated [] (h .width ∷ [])
+
+width-back : (h : Head) (t : Bool) → eqb (h .width) unstatedWidth ≡ t → getD (stating h t) 4 unstatedWidth ≡ h .width
+unfolding stating
+width-back h true e = sym (eqb-true (h .width) unstatedWidth e)
+width-back h false e = refl
+
 pub head-back : (h : Head) → headOf (headPayload h) ≡ h
-unfolding headOf headPayload
-head-back h = ap (λ (x : ℕ). record { m = h .m; n = h .n; operations = x }) (word-of (h .operations) [])
+unfolding headOf headPayload stating
+head-back h =
+    ap₂ (λ (x w : ℕ). record { m = h .m; n = h .n; operations = x; width = w }) (word-of (h .operations) [])
+    (width-back h (eqb (h .width) unstatedWidth) refl)
 
 pub operation-back : (o : Operation) → operationOf (operationPayload o) ≡ o
 unfolding operationOf operationPayload
@@ -47,6 +62,12 @@ unfolding elements
 listed [] = refl
 listed (x ∷ p) = ap (λ (l : List ℕ). x ∷ l) (listed p)
 
+-- within a list no default is taken
+pub getD-within : (p : List ℕ) (i d e : ℕ) → i < length p → getD p i d ≡ getD p i e
+getD-within [] i d e h = absurd (omega arith)
+getD-within (x ∷ p) zero d e h = refl
+getD-within (x ∷ p) (suc i) d e h = getD-within p i d e (omega arith)
+
 module _ (p : List ℕ) (all : AreBytes p) where
   low : (i : ℕ) → word p i % 256 ≡ getD p i 0
   low i = low-byte (getD p i 0) (getD p (i + 1) 0) (all i)
@@ -57,9 +78,14 @@ module _ (p : List ℕ) (all : AreBytes p) where
   its-elements : (n : ℕ) → length p ≡ n → elements (λ i. getD p i 0) n ≡ p
   its-elements n l = ap (elements (λ i. getD p i 0)) (sym l) ∙ listed p
 
-  pub head-bytes : length p ≡ 4 → headPayload (headOf p) ≡ p
-  unfolding headOf headPayload elements
-  head-bytes l = rw (low 2, high 2) (its-elements 4 l)
+  stated-bytes : (t : Bool) → length p ≡ cond t headLength widthHeadLength - 4 → stating (headOf p) t ≡ p
+  unfolding headOf stating elements
+  stated-bytes true l = rw (low 2, high 2) (its-elements 4 l)
+  stated-bytes false l = rw (low 2, high 2, getD-within p 4 unstatedWidth 0 (omega arith)) (its-elements 5 l)
+
+  pub head-bytes : length p ≡ headLengthOf (headOf p .width) - 4 → headPayload (headOf p) ≡ p
+  unfolding headLengthOf headPayload stating
+  head-bytes l = stated-bytes (eqb (headOf p .width) unstatedWidth) l
 
   pub operation-bytes : length p ≡ 8 → operationPayload (operationOf p) ≡ p
   unfolding operationOf operationPayload elements

@@ -1,21 +1,47 @@
 -- The length of each record and of a netlist's bytes, and that its records stand at their places, behind a head of any length.
 -- Assumes nothing.
-use Prim.Native.Nat.{ℕ, zero, suc, _+_, _*_, _<_}
+use Prim.Native.Nat.{ℕ, zero, suc, _+_, _*_, _≤_, _<_}
 use mathlib.Core.Path.{_≡_, refl, sym, ap, ap₂, _∙_}
+use mathlib.Core.Bool.{Bool, true, false, cond}
 use mathlib.Core.List.{List, [], _∷_, _++_, flatMap, append-assoc}
 use native.Mathlib.Omega.{arith}
+use lib.Dec.{eqb}
 use lib.ListN.{length, getD, drop, length-append}
 use lib.Seq.{drop-at, drop-append-add, drop-drop}
-use Rattle.layout_rules.specs.Records.{Netlist, headPayload, headLength, headBytes, operationPayload, operationLength, operationBytes, outputPayload, outputLength, outputBytes, totalsPayload, totalsLength, totalsBytes, netlistBytes}
+use Rattle.limits.specs.Limits.{unstatedWidth}
+use Rattle.layout_rules.specs.Bytes.{littleEndian, recordBytes}
+use Rattle.layout_rules.specs.Records.{Netlist, headPayload, headKind, headLength, widthHeadKind, widthHeadLength, headKindOf, headLengthOf, headBytes, operationPayload, operationLength, operationBytes, outputPayload, outputLength, outputBytes, totalsPayload, totalsLength, totalsBytes, netlistBytes}
 use Rattle.layout_rules.specs.Places.{operationPlace, outputPlace, totalsPlace, netlistLength, enoughBytes}
 use Rattle.layout_rules.specs.declared.Head.{Head}
 use Rattle.layout_rules.specs.declared.Operation.{Operation}
 use Rattle.layout_rules.specs.declared.Output.{Output}
 use Rattle.layout_rules.specs.declared.Totals.{Totals}
 
-pub length-head : (h : Head) → length (headBytes h) ≡ headLength
-unfolding headPayload
-length-head h = refl
+pub length-head : (h : Head) → length (headBytes h) ≡ headLengthOf (h .width)
+unfolding headPayload headLengthOf
+length-head h = stated (eqb (h .width) unstatedWidth)
+  where
+    stated : (t : Bool) → length (recordBytes (headKindOf (h .width)) (h .m ∷ h .n ∷ littleEndian (h .operations) ++ cond t [] (h .width ∷ []))) ≡ cond t headLength widthHeadLength
+    stated true = refl
+    stated false = refl
+
+-- a head has 8 or 9 bytes
+pub head-length : (s : ℕ) → (headLength ≤ headLengthOf s) × (headLengthOf s ≤ widthHeadLength)
+unfolding headLengthOf
+head-length s = go (eqb s unstatedWidth)
+  where
+    go : (t : Bool) → (headLength ≤ cond t headLength widthHeadLength) × (cond t headLength widthHeadLength ≤ widthHeadLength)
+    go true = (omega arith, omega arith)
+    go false = (omega arith, omega arith)
+
+-- and a small kind
+pub kind-small : (s : ℕ) → headKindOf s ≤ widthHeadKind
+unfolding headKindOf
+kind-small s = go (eqb s unstatedWidth)
+  where
+    go : (t : Bool) → cond t headKind widthHeadKind ≤ widthHeadKind
+    go true = omega arith
+    go false = omega arith
 
 pub length-operation : (o : Operation) → length (operationBytes o) ≡ operationLength
 unfolding operationPayload
@@ -36,14 +62,14 @@ length-records bytes n each [] = omega arith
 length-records bytes n each (x ∷ xs) =
     length-append (bytes x) (flatMap bytes xs) ∙ ap₂ _+_ (each x) (length-records bytes n each xs) ∙ omega arith
 
-pub length-netlist : (n : Netlist) → length (netlistBytes n) ≡ netlistLength headLength (length (n .operations)) (length (n .outputs))
+pub length-netlist : (n : Netlist) → length (netlistBytes n) ≡ netlistLength (headLengthOf (n .head .width)) (length (n .operations)) (length (n .outputs))
 unfolding netlistBytes
 length-netlist n =
     simp length-append
     (omega (arith, length-head (n .head), length-records operationBytes operationLength length-operation (n .operations), length-records outputBytes outputLength length-output (n .outputs), length-totals (n .totals)))
 
--- "6,136 bytes always suffice."
-enough-bytes : enoughBytes ≡ 6136
+-- "6,137 bytes always suffice."
+enough-bytes : enoughBytes ≡ 6137
 enough-bytes = refl
 
 -- ---- where each record stands, one after another
@@ -97,18 +123,21 @@ module _ (head : ℕ) (first : List ℕ) (sized : length first ≡ head) (os : L
 
 -- a netlist's operation i, output i and totals
 module _ (n : Netlist) where
+  abbrev head : ℕ
+  head = headLengthOf (n .head .width)
+
   pub operation-place : (i : ℕ) (d : Operation) → i < length (n .operations)
-      → drop (operationPlace headLength i) (netlistBytes n)
+      → drop (operationPlace (headLengthOf (n .head .width)) i) (netlistBytes n)
       ≡ operationBytes (getD (n .operations) i d) ++ (flatMap operationBytes (drop (suc i) (n .operations)) ++ (flatMap outputBytes (n .outputs) ++ totalsBytes (n .totals)))
   unfolding netlistBytes
-  operation-place = operation-stands headLength (headBytes (n .head)) (length-head (n .head)) (n .operations) (n .outputs) (totalsBytes (n .totals))
+  operation-place = operation-stands head (headBytes (n .head)) (length-head (n .head)) (n .operations) (n .outputs) (totalsBytes (n .totals))
 
   pub output-place : (i : ℕ) (d : Output) → i < length (n .outputs)
-      → drop (outputPlace headLength (length (n .operations)) i) (netlistBytes n)
+      → drop (outputPlace (headLengthOf (n .head .width)) (length (n .operations)) i) (netlistBytes n)
       ≡ outputBytes (getD (n .outputs) i d) ++ (flatMap outputBytes (drop (suc i) (n .outputs)) ++ totalsBytes (n .totals))
   unfolding netlistBytes
-  output-place = output-stands headLength (headBytes (n .head)) (length-head (n .head)) (n .operations) (n .outputs) (totalsBytes (n .totals))
+  output-place = output-stands head (headBytes (n .head)) (length-head (n .head)) (n .operations) (n .outputs) (totalsBytes (n .totals))
 
-  pub totals-place : drop (totalsPlace headLength (length (n .operations)) (length (n .outputs))) (netlistBytes n) ≡ totalsBytes (n .totals)
+  pub totals-place : drop (totalsPlace (headLengthOf (n .head .width)) (length (n .operations)) (length (n .outputs))) (netlistBytes n) ≡ totalsBytes (n .totals)
   unfolding netlistBytes
-  totals-place = last-stands headLength (headBytes (n .head)) (length-head (n .head)) (n .operations) (n .outputs) (totalsBytes (n .totals))
+  totals-place = last-stands head (headBytes (n .head)) (length-head (n .head)) (n .operations) (n .outputs) (totalsBytes (n .totals))

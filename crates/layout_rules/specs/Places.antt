@@ -2,10 +2,13 @@
 -- stand in bytes.
 -- Assumes nothing.
 use Prim.Native.Nat.{ℕ, zero, suc, _+_, _*_, _-_}
+use mathlib.Core.Bool.{cond}
 use mathlib.Core.List.{List, [], _∷_, _++_}
+use lib.Dec.{eqb}
 use lib.ListN.{length, take, drop}
 use Rattle.limits.specs.Limits.{maxRows, maxOperations}
-use Rattle.layout_rules.specs.Records.{Netlist, headLength, headOf, operationLength, operationOf, outputLength, outputOf, totalsLength, totalsOf}
+use Rattle.layout_rules.specs.Bytes.{word}
+use Rattle.layout_rules.specs.Records.{Netlist, headKind, headLength, widthHeadKind, widthHeadLength, headOf, operationLength, operationOf, outputLength, outputOf, totalsLength, totalsOf}
 use Rattle.layout_rules.specs.declared.Head.{Head}
 use Rattle.layout_rules.specs.declared.Operation.{Operation}
 use Rattle.layout_rules.specs.declared.Output.{Output}
@@ -27,9 +30,9 @@ totalsPlace head operations outputs = outputPlace head operations outputs
 abbrev pub netlistLength : ℕ → ℕ → ℕ → ℕ
 netlistLength head operations outputs = totalsPlace head operations outputs + totalsLength
 
--- "6,136 bytes always suffice."
+-- "6,137 bytes always suffice."
 abbrev pub enoughBytes : ℕ
-enoughBytes = netlistLength headLength maxOperations maxRows
+enoughBytes = netlistLength widthHeadLength maxOperations maxRows
 
 -- ---- the fields of the records in bytes, each of its kind's length
 
@@ -37,15 +40,22 @@ enoughBytes = netlistLength headLength maxOperations maxRows
 abbrev pub payloadOf : List ℕ → ℕ → ℕ → List ℕ
 payloadOf bytes place size = take (size - 4) (drop (place + 4) bytes)
 
+-- kind and length of the head that is due: where the kind there is 6, the one that states a width
+unfoldable pub headKindIn : List ℕ → ℕ
+headKindIn bytes = cond (eqb (word bytes 2) widthHeadKind) widthHeadKind headKind
+
+unfoldable pub headLengthIn : List ℕ → ℕ
+headLengthIn bytes = cond (eqb (word bytes 2) widthHeadKind) widthHeadLength headLength
+
 abbrev pub headAt : List ℕ → Head
-headAt bytes = headOf (payloadOf bytes 0 headLength)
+headAt bytes = headOf (payloadOf bytes 0 (headLengthIn bytes))
 
 abbrev pub operationAt : List ℕ → ℕ → Operation
-operationAt bytes k = operationOf (payloadOf bytes (operationPlace headLength k) operationLength)
+operationAt bytes k = operationOf (payloadOf bytes (operationPlace (headLengthIn bytes) k) operationLength)
 
 -- output i behind so many operations
 abbrev pub outputAt : List ℕ → ℕ → ℕ → Output
-outputAt bytes operations i = outputOf (payloadOf bytes (outputPlace headLength operations i) outputLength)
+outputAt bytes operations i = outputOf (payloadOf bytes (outputPlace (headLengthIn bytes) operations i) outputLength)
 
 abbrev pub totalsAt : List ℕ → ℕ → Totals
 totalsAt bytes place = totalsOf (payloadOf bytes place totalsLength)
@@ -71,7 +81,7 @@ abbrev pub outputsIn : List ℕ → List Output
 outputsIn bytes = firstOutputs bytes (length (operationsIn bytes)) (headAt bytes .m)
 
 abbrev pub totalsPlaceIn : List ℕ → ℕ
-totalsPlaceIn bytes = totalsPlace headLength (length (operationsIn bytes)) (length (outputsIn bytes))
+totalsPlaceIn bytes = totalsPlace (headLengthIn bytes) (length (operationsIn bytes)) (length (outputsIn bytes))
 
 abbrev pub netlistIn : List ℕ → Netlist
 netlistIn bytes =

@@ -1,8 +1,11 @@
 -- Document 01, "Netlist and board machine": a netlist as data, and its records as bytes.
 -- Assumes nothing.
 use Prim.Native.Nat.{ℕ}
+use mathlib.Core.Bool.{cond}
 use mathlib.Core.List.{List, [], _∷_, _++_, flatMap}
+use lib.Dec.{eqb}
 use lib.ListN.{getD}
+use Rattle.limits.specs.Limits.{unstatedWidth}
 use Rattle.layout_rules.specs.Bytes.{littleEndian, word, recordBytes}
 use Rattle.layout_rules.specs.declared.Head.{Head}
 use Rattle.layout_rules.specs.declared.Operation.{Operation}
@@ -16,11 +19,11 @@ pub record Netlist : Type 0 where
   pub outputs : List Output
   pub totals : Totals
 
--- the netlist of no bytes: "a head with m, n and operations 0, then totals of 0"
-abbrev pub netlistWithoutRows : Netlist
-netlistWithoutRows =
+-- the netlist of no bytes, for samples of s bits: "a head with m, n and operations 0, then totals of 0"
+abbrev pub netlistWithoutRows : ℕ → Netlist
+netlistWithoutRows s =
     record {
-      head = record { m = 0; n = 0; operations = 0 };
+      head = record { m = 0; n = 0; operations = 0; width = s };
       operations = [];
       outputs = [];
       totals = record { operations = 0; depth = 0 };
@@ -28,9 +31,13 @@ netlistWithoutRows =
 
 -- ---- the payload of each kind, field by field
 
--- m, n (1 byte each), operations (2 bytes)
+-- "with the width as its last byte"; 16 is not written
+abbrev pub statedWidth : ℕ → List ℕ
+statedWidth s = cond (eqb s unstatedWidth) [] (s ∷ [])
+
+-- m, n (1 byte each), operations (2 bytes), and the sample width (1) unless it is 16
 unfoldable pub headPayload : Head → List ℕ
-headPayload h = h .m ∷ h .n ∷ littleEndian (h .operations)
+headPayload h = h .m ∷ h .n ∷ littleEndian (h .operations) ++ statedWidth (h .width)
 
 -- 0 add or 1 subtract (1 byte), A (2 bytes), sA (1), B (2), sB (1), width (1)
 unfoldable pub operationPayload : Operation → List ℕ
@@ -44,7 +51,7 @@ outputPayload o = o .sign ∷ littleEndian (o .symbol) ++ o .shift ∷ o .width 
 unfoldable pub totalsPayload : Totals → List ℕ
 totalsPayload t = littleEndian (t .operations) ++ littleEndian (t .depth)
 
--- ---- the records: "kind 2, head, length 8", "kind 3, operation, length 12", "kind 4, output, length 9", "kind 5, totals, length 8"
+-- ---- the records: "kind 2, head, length 8", or "kind 6, length 9"; "kind 3, operation, length 12", "kind 4, output, length 9", "kind 5, totals, length 8"
 
 abbrev pub headKind : ℕ
 headKind = 2
@@ -52,8 +59,22 @@ headKind = 2
 abbrev pub headLength : ℕ
 headLength = 8
 
+-- the head that states a width
+abbrev pub widthHeadKind : ℕ
+widthHeadKind = 6
+
+abbrev pub widthHeadLength : ℕ
+widthHeadLength = 9
+
+-- the head of a netlist for samples of s bits
+unfoldable pub headKindOf : ℕ → ℕ
+headKindOf s = cond (eqb s unstatedWidth) headKind widthHeadKind
+
+unfoldable pub headLengthOf : ℕ → ℕ
+headLengthOf s = cond (eqb s unstatedWidth) headLength widthHeadLength
+
 abbrev pub headBytes : Head → List ℕ
-headBytes h = recordBytes headKind (headPayload h)
+headBytes h = recordBytes (headKindOf (h .width)) (headPayload h)
 
 abbrev pub operationKind : ℕ
 operationKind = 3
@@ -88,8 +109,9 @@ netlistBytes n = headBytes (n .head) ++ (flatMap operationBytes (n .operations) 
 
 -- ---- the fields of a payload of each kind
 
+-- where no width is stated, it is 16
 unfoldable pub headOf : List ℕ → Head
-headOf p = record { m = getD p 0 0; n = getD p 1 0; operations = word p 2 }
+headOf p = record { m = getD p 0 0; n = getD p 1 0; operations = word p 2; width = getD p 4 unstatedWidth }
 
 unfoldable pub operationOf : List ℕ → Operation
 operationOf p = record { sign = getD p 0 0; a = word p 1; sa = getD p 3 0; b = word p 4; sb = getD p 6 0; width = getD p 7 0 }

@@ -1,11 +1,12 @@
 // Document 01, "Matrix record" and "Netlist and board machine": the records of a netlist as data, and what the step hands back. Their bytes
 // and places are defined in specs/, the laws stand in proofs/. Rests on `limits` and `integers`.
 
-// Kind 2: m rows, n columns, the number of operations.
+// Kind 2, or 6: m rows, n columns, the number of operations, the sample width.
 pub struct Head {
     pub m: u8,
     pub n: u8,
     pub operations: u16,
+    pub width: u8,
 }
 
 // Kind 3: (a shifted by sa) plus (sign 0) or minus (sign 1) (b shifted by sb), and its width.

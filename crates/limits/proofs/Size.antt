@@ -1,5 +1,5 @@
 -- The test of m and n passes exactly where they are within the limits of a matrix record, and a bank's are those of a matrix record or
--- both 0.
+-- both 0; the test of a sample width, exactly where it is one.
 -- Assumes nothing.
 use Prim.Native.Nat.{ℕ, zero, suc, _≤_}
 use mathlib.Core.Path.{_≡_, refl}
@@ -8,8 +8,8 @@ use mathlib.Core.Logic.{_↔_, _⊎_, inl, inr, ⊎-elim}
 use native.Mathlib.Omega.{arith}
 use lib.Dec.{ltb}
 use borrow.Author.Tests.{ltb-false, le-ltb}
-use Rattle.limits.specs.Limits.{maxRows, maxColumns}
-use Rattle.limits.specs.Size.{SizeLimits, BankSize, outside, sizeOutside}
+use Rattle.limits.specs.Limits.{maxRows, maxColumns, leastSampleWidth, mostSampleWidth}
+use Rattle.limits.specs.Size.{SizeLimits, BankSize, outside, sizeOutside, SampleWidth, sampleWidthOutside}
 
 either-false : (p q : Bool) → (p || q) ≡ false → (p ≡ false) × (q ≡ false)
 either-false true q e = absurd (true≢false e)
@@ -52,3 +52,13 @@ bank-size m n = (there m n, back)
 -- where there are rows, there are inputs
 pub rows-have-inputs : (m n : ℕ) → BankSize m n → 1 ≤ m → 1 ≤ n
 rows-have-inputs m n b h = ⊎-elim (λ e. absurd (omega (arith, e .0))) (λ l. l .columns-least) (bank-size m n .0 b)
+
+-- ---- sample widths
+
+pub sample-width-within : (s : ℕ) → sampleWidthOutside s ≡ false → SampleWidth s
+sample-width-within s e =
+    let both = either-false (ltb s leastSampleWidth) (ltb mostSampleWidth s) e in
+    record { least = ltb-false s leastSampleWidth (both .0); most = ltb-false mostSampleWidth s (both .1) }
+
+pub sample-width-inside : (s : ℕ) → SampleWidth s → sampleWidthOutside s ≡ false
+sample-width-inside s w = simp (le-ltb s leastSampleWidth (w .least), le-ltb mostSampleWidth s (w .most))

@@ -16,17 +16,24 @@ maxColumns = 8
 abbrev pub positions : ℕ
 positions = 16
 
--- "over all samples from −32,768 to 32,767"
-abbrev pub sampleWidth : ℕ
-sampleWidth = 16
+-- "a sample width from 8 to 24"
+abbrev pub leastSampleWidth : ℕ
+leastSampleWidth = 8
+
+abbrev pub mostSampleWidth : ℕ
+mostSampleWidth = 24
+
+-- "a head of kind 2 states no width: its samples have 16 bits"
+abbrev pub unstatedWidth : ℕ
+unstatedWidth = 16
 
 -- "operations (2 bytes, at most 504)"
 abbrev pub maxOperations : ℕ
 maxOperations = 504
 
--- "widths read are at most 40"
+-- "widths read are at most 44"
 abbrev pub maxWidth : ℕ
-maxWidth = 40
+maxWidth = 44
 
 -- ---- worked out
 
@@ -62,6 +69,6 @@ maxSymbols = maxColumns + maxOperations
 abbrev pub columnBits : ℕ
 columnBits = 3
 
--- "compiled ones at most 35"
-abbrev pub maxCompiledWidth : ℕ
-maxCompiledWidth = positions + sampleWidth + columnBits
+-- "compiled ones at most 19 more than the sample width"
+abbrev pub maxCompiledWidth : ℕ → ℕ
+maxCompiledWidth s = positions + s + columnBits

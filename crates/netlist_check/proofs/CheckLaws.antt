@@ -27,7 +27,7 @@ use Rattle.netlist_rules.specs.Check.{checked, sameInteger, sameRow, rowsAnswer
 use Rattle.netlist_read.specs.Tables.{NetlistHeld}
 use Rattle.netlist_check.specs.Compared.{RowReady}
 use Rattle.netlist_read.proofs.HeldLaws.{output-row-held, output-coefficient-small}
-use Rattle.netlist_read.proofs.NetlistLaws.{output-there}
+use Rattle.netlist_read.proofs.NetlistLaws.{head-limits, output-there}
 
 -- ---- integers
 
@@ -103,7 +103,7 @@ module _ (b m : List ℕ) (forms : List ℤ) (H : NetlistHeld b forms) (i : ℕ)
       → sameRow (outputRow forms (headAt b .n) (outputAt b (headAt b .operations) i)) (coefficientsFrom m (i * headAt b .n) (headAt b .n))
       ≡ sameRow (outputForm (headAt b .n) (operationsIn b) (getD (outputsIn b) i (outputAt b 0 0))) (getD (matrix m) i [])
   row-compared l e = ap₂ sameRow
-      (output-row-held b (headAt b .n) (headAt b .operations) forms (H .forms-held) (outputAt b (headAt b .operations) i) (output-there b (H .read) i h .1 .operand)
+      (output-row-held b (headAt b .width) (headAt b .n) (headAt b .operations) (head-limits b (H .read) .width) forms (H .forms-held) (outputAt b (headAt b .operations) i) (output-there b (H .read) i h .1 .operand)
       ∙ ap (outputForm (headAt b .n) (operationsIn b)) (sym output-is))
       (ap (λ (c : ℕ). coefficientsFrom m (i * c) c) (sym e) ∙ sym (matrix-row m i l))
     where
@@ -114,7 +114,7 @@ module _ (b m : List ℕ) (forms : List ℤ) (H : NetlistHeld b forms) (i : ℕ)
   pub row-ready : AcceptedMatrix m → i < rows m → columns m ≡ headAt b .n → RowReady m (i * headAt b .n) (headAt b .n) forms (outputAt b (headAt b .operations) i)
   row-ready a l e = record {
     there = λ j k. subst (λ (c : ℕ). coefficientPlace (i * c + j) + 1 < length m) e (coefficient-there m a i j l (omega (arith, e, k)));
-    small = output-coefficient-small b (headAt b .n) (headAt b .operations) forms (H .forms-held) (outputAt b (headAt b .operations) i) (output-there b (H .read) i h .1 .operand);
+    small = output-coefficient-small b (headAt b .width) (headAt b .n) (headAt b .operations) (head-limits b (H .read) .width) forms (H .forms-held) (outputAt b (headAt b .operations) i) (output-there b (H .read) i h .1 .operand);
   }
 
 -- ---- the answer

@@ -1,7 +1,6 @@
 // Document 01, "Reading, checking, running" and "Why a record was declined": checking a netlist against a matrix, refusals 1 to 5,
 // 7 to 12, 13, 14, as `netlist_rules` has it. Rests on `netlist_read` and `layout_matrix`.
 use board_rules::FORMS_LENGTH;
-use layout_records::places::HEAD_LENGTH;
 use layout_records::places::output_place;
 use layout_records::read::output_at;
 use layout_rules::Output;
@@ -11,7 +10,7 @@ ghost use mathlib.Core.Path.{_≡_};
 ghost use Prim.Native.Nat.{_*_, _≤_, _<_};
 ghost use Rattle.limits.specs.Limits.{maxRows, maxColumns, maxSymbols};
 ghost use Rattle.layout_rules.specs.Matrix.{matrixRefusal, coefficientsFrom};
-ghost use Rattle.layout_rules.specs.Places.{headAt};
+ghost use Rattle.layout_rules.specs.Places.{headLengthIn, headAt};
 ghost use Rattle.board_rules.specs.Table.{outputRow};
 ghost use Rattle.netlist_rules.specs.Check.{sameRow, checkAnswer};
 ghost use Rattle.netlist_read.specs.Tables.{NetlistHeld};
@@ -35,22 +34,23 @@ fn same_row(matrix: &[u8], index: usize, o: Output, n: usize, forms: &[i64; FORM
     true
 }
 
-// The lowest row whose coefficients differ: 14 at that row, else 0.
+// The lowest row whose coefficients differ: 14 at that row, else 0. The netlist's operations start behind its head.
 fn rows_answer(
     matrix: &[u8],
     netlist: &[u8],
+    start: usize,
     m: usize,
     n: usize,
     operations: usize,
     forms: &[i64; FORMS_LENGTH],
 ) -> CheckAnswer
-    requires { ⌜ NetlistHeld (now netlist) (now forms) ⌝ }
+    requires { ⌜ NetlistHeld (now netlist) (now forms) × (start ≡ headLengthIn (now netlist)) ⌝ }
     requires { ⌜ matrixRefusal (now matrix) ≡ 0 ⌝ }
     requires { ⌜ SameSizes (now matrix) (headAt (now netlist)) m n operations ⌝ }
     ensures { λ r. ⌜ r ≡ rowsMatched (now (matrix .entry)) (now (netlist .entry)) ⌝ }
 {
     for i in 0..m {
-        let o = output_at(netlist, output_place(HEAD_LENGTH, operations, i));
+        let o = output_at(netlist, output_place(start, operations, i));
         if !same_row(matrix, i * n, o, n, forms) {
             return CheckAnswer {
                 refusal: 14,
@@ -96,6 +96,7 @@ pub fn check(matrix: &[u8], netlist: &[u8]) -> CheckAnswer
     rows_answer(
         matrix,
         netlist,
+        layout_head::due_length(netlist),
         read.m as usize,
         read.n as usize,
         read.operations as usize,

@@ -1,7 +1,7 @@
 -- The whole netlist: which refusal and which place read returns, part by part, and what stands in the bytes where it accepts.
 -- Assumes nothing.
 use Prim.Native.Nat.{ℕ, zero, suc, _+_, _≤_, _<_}
-use mathlib.Core.Path.{_≡_, refl, sym, ap, _∙_}
+use mathlib.Core.Path.{_≡_, refl, sym, ap, ap₂, _∙_}
 use mathlib.Core.Bool.{Bool, true, false}
 use mathlib.Core.List.{List}
 use native.Mathlib.Omega.{arith}
@@ -9,12 +9,15 @@ use lib.ListN.{length}
 use borrow.Author.Tests.{lt-ltb, le-ltb}
 use Rattle.layout_rules.specs.declared.Head.{Head}
 use Rattle.layout_rules.specs.declared.Totals.{Totals}
-use Rattle.layout_rules.specs.Records.{Netlist, headLength, operationLength, outputLength, totalsLength}
-use Rattle.layout_rules.specs.Places.{operationPlace, outputPlace, totalsPlace, headAt, operationAt, outputAt, totalsAt, firstRecords, firstOutputs, operationsIn, outputsIn, totalsPlaceIn, netlistIn}
+use Rattle.layout_rules.specs.Records.{Netlist, operationLength, outputLength, totalsLength}
+use Rattle.layout_rules.specs.Places.{operationPlace, outputPlace, totalsPlace, headLengthIn, headAt, operationAt, outputAt, totalsAt, firstRecords, firstOutputs, operationsIn, outputsIn, totalsPlaceIn, netlistIn}
 use Rattle.layout_rules.proofs.FirstRecords.{length-first}
+use Rattle.layout_rules.proofs.InBytes.{length-due}
 use Rattle.board_rules.specs.Netlist.{HeadLimits, OperationLimits, OutputLimits}
 use Rattle.netlist_read.specs.declared.Refusal.{Refusal}
-use Rattle.netlist_rules.specs.Read.{Reading, refused, accepted, headRefusal, operationRefusal, outputRefusal, totalsRefusal, readOperations, readOutputs, leftoverRefusal, readNetlist, readRefused, readAccepted, readAnswerOf, readAnswer}
+use Rattle.netlist_rules.specs.declared.ReadAnswer.{ReadAnswer}
+use Rattle.netlist_rules.specs.declared.SampleWidthAnswer.{SampleWidthAnswer}
+use Rattle.netlist_rules.specs.Read.{Reading, refused, accepted, headRefusal, operationRefusal, outputRefusal, totalsRefusal, readOperations, readOutputs, leftoverRefusal, readNetlist, readRefused, readAccepted, readAnswerOf, readAnswer, sampleWidthOf, sampleWidthAnswer}
 use Rattle.netlist_rules.specs.Exact.{readLimits}
 use Rattle.netlist_read.specs.Tables.{refusalOf, NetlistRead}
 use Rattle.netlist_tests.proofs.RecordLaws.{head-due, operation-due, output-due, none-refused}
@@ -79,11 +82,11 @@ module _ (b : List ℕ) where
           unfolding readNetlist
           all-accepted h = rw (due, all, rows, right, none-left b (totalsPlaceIn b + totalsLength) h) refl
 
-  pub totals-place : totalsPlaceIn b ≡ totalsPlace headLength (headAt b .operations) (headAt b .m)
+  pub totals-place : totalsPlaceIn b ≡ totalsPlace (headLengthIn b) (headAt b .operations) (headAt b .m)
   totals-place = omega (arith, length-first (operationAt b) (headAt b .operations), length-first (outputAt b (length (operationsIn b))) (headAt b .m))
 
-  pub place-is : (h : Head) → h ≡ headAt b → totalsPlace headLength (h .operations) (h .m) ≡ totalsPlaceIn b
-  place-is h e = ap (λ (x : Head). totalsPlace headLength (x .operations) (x .m)) e ∙ sym totals-place
+  pub place-is : (start : ℕ) (h : Head) → start ≡ headLengthIn b → h ≡ headAt b → totalsPlace start (h .operations) (h .m) ≡ totalsPlaceIn b
+  place-is start h d e = ap₂ (λ (k : ℕ) (x : Head). totalsPlace k (x .operations) (x .m)) d e ∙ sym totals-place
 
   -- ---- the answer
 
@@ -104,25 +107,42 @@ module _ (b : List ℕ) where
   unfolding readAnswer
   answer-accepted net e = sym (ap readAnswerOf e)
 
+  -- ---- the sample width
+
+  pub width-refused : (a : ReadAnswer) → a ≡ readAnswer b → (a .refusal ≡ 0 → ⊥) → record { refusal = a .refusal; place = a .place; width = 0 } ≡ sampleWidthAnswer b
+  unfolding readAnswer sampleWidthAnswer
+  width-refused a e h = go (readNetlist b) e
+    where
+      go : (x : Reading Netlist) → a ≡ readAnswerOf x → record { refusal = a .refusal; place = a .place; width = 0 } ≡ sampleWidthOf x
+      go (refused r p) d = ap (λ (y : ReadAnswer). record { refusal = y .refusal; place = y .place; width = 0 }) d
+      go (accepted net) d = absurd (h (ap (λ (y : ReadAnswer). y .refusal) d))
+
+  pub width-accepted : (h : Head) → h ≡ headAt b → readNetlist b ≡ accepted (netlistIn b) → record { refusal = 0; place = 0; width = h .width } ≡ sampleWidthAnswer b
+  unfolding sampleWidthAnswer
+  width-accepted h e d = ap (λ (x : Head). record { refusal = 0; place = 0; width = x .width }) e ∙ sym (ap sampleWidthOf d)
+
   -- ---- what stands in the bytes
 
   module _ (N : NetlistRead b) where
-    pub head-limits : HeadLimits readLimits (headAt b)
-    head-limits = head-due b (N .head-due) .1
+    pub head-limits : HeadLimits (readLimits (headAt b .width)) (headAt b)
+    head-limits = head-due b (N .head-due) .1 .limits
+
+    pub head-there : (headLengthIn b ≤ length b) × (4 ≤ length b)
+    head-there = let l = head-due b (N .head-due) .0 in (l, omega (arith, l, length-due b))
 
     pub operation-there : (k : ℕ) → k < headAt b .operations
-        → (operationPlace headLength k + operationLength ≤ length b) × OperationLimits readLimits (headAt b .n + k) (operationAt b k)
+        → (operationPlace (headLengthIn b) k + operationLength ≤ length b) × OperationLimits (readLimits (headAt b .width)) (headAt b .n + k) (operationAt b k)
     unfolding firstRecords
-    operation-there k h = operation-due b (headAt b .n) k
-        (none-refused (operationRefusal b (headAt b .n)) (operationPlace headLength) (operationAt b) (headAt b .operations) 0 (operationsIn b) (N .operations-read) k (omega arith) (omega arith))
+    operation-there k h = operation-due b (headAt b .width) (headAt b .n) k
+        (none-refused (operationRefusal b (headAt b .width) (headAt b .n)) (operationPlace (headLengthIn b)) (operationAt b) (headAt b .operations) 0 (operationsIn b) (N .operations-read) k (omega arith) (omega arith))
 
-    output-passed : (i : ℕ) → i < headAt b .m → outputRefusal b (headAt b .n) (operationsIn b) (length (firstOutputs b (length (operationsIn b)) i)) ≡ 0
+    output-passed : (i : ℕ) → i < headAt b .m → outputRefusal b (headAt b .width) (headAt b .n) (operationsIn b) (length (firstOutputs b (length (operationsIn b)) i)) ≡ 0
     unfolding firstRecords
-    output-passed i h = none-refused (λ outputs. outputRefusal b (headAt b .n) (operationsIn b) (length outputs)) (outputPlace headLength (length (operationsIn b)))
+    output-passed i h = none-refused (λ outputs. outputRefusal b (headAt b .width) (headAt b .n) (operationsIn b) (length outputs)) (outputPlace (headLengthIn b) (length (operationsIn b)))
         (outputAt b (length (operationsIn b))) (headAt b .m) 0 (outputsIn b) (N .outputs-read) i (omega arith) (omega arith)
 
     pub output-there : (i : ℕ) → i < headAt b .m
-        → (outputPlace headLength (headAt b .operations) i + outputLength ≤ length b)
-        × OutputLimits readLimits (headAt b .n + headAt b .operations) (outputAt b (headAt b .operations) i)
-    output-there i h = output-due b (headAt b .n) (headAt b .operations) (operationsIn b) (length-first (operationAt b) (headAt b .operations)) i
+        → (outputPlace (headLengthIn b) (headAt b .operations) i + outputLength ≤ length b)
+        × OutputLimits (readLimits (headAt b .width)) (headAt b .n + headAt b .operations) (outputAt b (headAt b .operations) i)
+    output-there i h = output-due b (headAt b .width) (headAt b .n) (headAt b .operations) (operationsIn b) (length-first (operationAt b) (headAt b .operations)) i
         (rw (length-first (outputAt b (length (operationsIn b))) i) at (output-passed i h))

@@ -5,7 +5,7 @@ use mathlib.Core.Path.{_≡_}
 use mathlib.Core.List.{List}
 use lib.IntN.{ℤ}
 use lib.ListN.{length}
-use Rattle.limits.specs.Limits.{sampleWidth, maxWidth}
+use Rattle.limits.specs.Limits.{maxWidth}
 use Rattle.layout_rules.specs.declared.Head.{Head}
 use Rattle.layout_rules.specs.declared.Operation.{Operation}
 use Rattle.layout_rules.specs.Places.{headAt, firstOperations, firstOutputs, operationsIn, outputsIn, totalsPlaceIn, netlistIn}
@@ -15,10 +15,10 @@ use Rattle.board_rules.specs.Table.{HoldsForms, HoldsDepths}
 use Rattle.netlist_read.specs.declared.Refusal.{Refusal}
 use Rattle.netlist_rules.specs.Read.{Reading, refused, accepted, headRefusal, operationRefusal, totalsRefusal, readOperations, readOutputs, readNetlist}
 
--- the coefficients of every entry after the first k operations, none of which is wider than the widest
-pub record FormsHeld (bytes : List ℕ) (n k : ℕ) (forms : List ℤ) : Type 0 where
+-- the coefficients of every entry after the first k operations, none of which is wider than the widest over samples of s bits
+pub record FormsHeld (bytes : List ℕ) (s n k : ℕ) (forms : List ℤ) : Type 0 where
   pub coefficients : HoldsForms n (firstOperations bytes k) forms
-  pub narrow : (symbol : ℕ) → symbol < n + k → width sampleWidth (entryForm n (firstOperations bytes k) symbol) ≤ maxWidth
+  pub narrow : (symbol : ℕ) → symbol < n + k → width s (entryForm n (firstOperations bytes k) symbol) ≤ maxWidth
 
 -- the depths of these entries
 abbrev pub DepthsHeld : List ℕ → ℕ → ℕ → List ℕ → Type 0
@@ -30,16 +30,16 @@ refusalOf (refused r place) = record { refusal = r; place = place }
 refusalOf (accepted x) = record { refusal = 0; place = 0 }
 
 -- operation k: its refusal, and where there is none, the tables with its coefficients and its depth
-pub record OperationRead (bytes : List ℕ) (n k refusal : ℕ) (forms : List ℤ) (table : List ℕ) : Type 0 where
-  pub number : refusal ≡ operationRefusal bytes n (firstOperations bytes k)
-  pub forms-held : refusal ≡ 0 → FormsHeld bytes n (suc k) forms
+pub record OperationRead (bytes : List ℕ) (s n k refusal : ℕ) (forms : List ℤ) (table : List ℕ) : Type 0 where
+  pub number : refusal ≡ operationRefusal bytes s n (firstOperations bytes k)
+  pub forms-held : refusal ≡ 0 → FormsHeld bytes s n (suc k) forms
   pub depths-held : refusal ≡ 0 → DepthsHeld bytes n (suc k) table
 
 -- all operations
 pub record OperationsRead (bytes : List ℕ) (h : Head) (r : Refusal) (forms : List ℤ) (table : List ℕ) : Type 0 where
   pub answer : r ≡ refusalOf (readOperations bytes h)
   pub all : r .refusal ≡ 0 → readOperations bytes h ≡ accepted (firstOperations bytes (h .operations))
-  pub forms-held : r .refusal ≡ 0 → FormsHeld bytes (h .n) (h .operations) forms
+  pub forms-held : r .refusal ≡ 0 → FormsHeld bytes (h .width) (h .n) (h .operations) forms
   pub depths-held : r .refusal ≡ 0 → DepthsHeld bytes (h .n) (h .operations) table
 
 -- all outputs of a netlist of the operations os
@@ -60,12 +60,12 @@ pub record NetlistRead (bytes : List ℕ) : Type 0 where
   pub totals-due : totalsRefusal bytes (totalsPlaceIn bytes) (headAt bytes) (operationsIn bytes) ≡ 0
   pub netlist-read : readNetlist bytes ≡ accepted (netlistIn bytes)
   pub narrow : (symbol : ℕ) → symbol < headAt bytes .n + headAt bytes .operations
-      → width sampleWidth (entryForm (headAt bytes .n) (operationsIn bytes) symbol) ≤ maxWidth
+      → width (headAt bytes .width) (entryForm (headAt bytes .n) (operationsIn bytes) symbol) ≤ maxWidth
 
 -- and the table holds the coefficients of its entries
 pub record NetlistHeld (bytes : List ℕ) (forms : List ℤ) : Type 0 where
   pub read : NetlistRead bytes
-  pub forms-held : FormsHeld bytes (headAt bytes .n) (headAt bytes .operations) forms
+  pub forms-held : FormsHeld bytes (headAt bytes .width) (headAt bytes .n) (headAt bytes .operations) forms
 
 -- all records behind the head
 pub record RecordsRead (bytes : List ℕ) (r : Refusal) (forms : List ℤ) : Type 0 where

@@ -152,12 +152,12 @@ unfolding readTests
 read-numbers b =
     let h = headAt b in
     let os = operationsIn b in
-    let operations = firstTests (operationTests b (h .n)) (h .operations) in
-    let outputs = firstTests (outputTests b (h .n) os) (h .m) in
+    let operations = firstTests (operationTests b (h .width) (h .n)) (h .operations) in
+    let outputs = firstTests (outputTests b (h .width) (h .n) os) (h .m) in
     let totals = totalsTests b (totalsPlaceIn b) h os in
     numbers-append 13 (headTests b) (operations ++ (outputs ++ totals)) (omega arith)
-    (numbers-append 13 operations (outputs ++ totals) (numbers-first 13 (operationTests b (h .n)) (h .operations) (λ i. omega arith))
-    (numbers-append 13 outputs totals (numbers-first 13 (outputTests b (h .n) os) (h .m) (λ i. omega arith)) (omega arith)))
+    (numbers-append 13 operations (outputs ++ totals) (numbers-first 13 (operationTests b (h .width) (h .n)) (h .operations) (λ i. omega arith))
+    (numbers-append 13 outputs totals (numbers-first 13 (outputTests b (h .width) (h .n) os) (h .m) (λ i. omega arith)) (omega arith)))
 
 module _ (mb nb : List ℕ) (all : AreBytes nb) (row : ℕ) where
   lowest-there : FirstFails (checkTests mb nb) 14 row → (net : Netlist) × LowestRow mb nb net row

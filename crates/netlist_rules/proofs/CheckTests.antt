@@ -28,7 +28,7 @@ use Rattle.netlist_rules.specs.Tests.{readTests, rowTests, checkTests}
 use Rattle.netlist_rules.specs.declared.CheckAnswer.{CheckAnswer}
 use Rattle.netlist_rules.proofs.ReadingLaws.{behind-reading}
 use Rattle.netlist_rules.proofs.Conditions.{and-says, same-says}
-use Rattle.netlist_rules.proofs.ReadTests.{read-decided}
+use Rattle.netlist_rules.proofs.ReadTests.{read-decided, width-passes}
 use Rattle.netlist_rules.proofs.Coefficients.{row-says}
 
 -- ---- 14: row by row
@@ -38,7 +38,7 @@ getD-map f [] i d e h = absurd (omega arith)
 getD-map f (x ∷ xs) zero d e h = refl
 getD-map f (x ∷ xs) (suc i) d e h = getD-map f xs i d e (omega arith)
 
-module _ (net : Netlist) (rs : List (List ℤ)) (m : ℕ) (outputs-count : length (net .outputs) ≡ m) (rows-count : length rs ≡ m)
+module _ (net : Netlist) (enough : 2 ≤ net .head .width) (rs : List (List ℤ)) (m : ℕ) (outputs-count : length (net .outputs) ≡ m) (rows-count : length rs ≡ m)
     (row-length : (i : ℕ) → i < m → length (getD rs i []) ≡ net .head .n) where
   -- any output, for places past the end
   none : Output
@@ -50,7 +50,7 @@ module _ (net : Netlist) (rs : List (List ℤ)) (m : ℕ) (outputs-count : lengt
   row-computes : (i : ℕ) → i < m → (sameRow (outputFormAt i) (getD rs i []) ≡ true) ↔ ComputesRow net rs i
   row-computes i h =
       let o = getD (net .outputs) i none in
-      let says = row-says (net .head .n) (net .operations) o (getD rs i []) (row-length i h) in
+      let says = row-says (net .head .width) (net .head .n) enough (net .operations) o (getD rs i []) (row-length i h) in
       let value : (xs : List ℤ) → getD (netlistOutputs net xs) i (pos 0) ≡ outputValue (machine xs (net .operations)) o =
       (λ xs. getD-map (outputValue (machine xs (net .operations))) (net .outputs) i none (pos 0) (omega arith)) in
       (λ e xs s. value xs ∙ says .0 e xs s, λ c. says .1 (λ xs s. sym (value xs) ∙ c xs s))
@@ -111,12 +111,12 @@ module _ (mb nb : List ℕ) where
         λ r. all .1 (r .same-rows, r .same-columns),
       )
 
-  match-decided : Decided (tested 13 0 (SameSize mb (net .head)) ∷ firstTests (rowTests net (matrix mb)) (net .head .m)) (matchAnswer mb net) (checked 0 0) checked
+  match-decided : AllPass (readTests nb) → Decided (tested 13 0 (SameSize mb (net .head)) ∷ firstTests (rowTests net (matrix mb)) (net .head .m)) (matchAnswer mb net) (checked 0 0) checked
   unfolding matchAnswer
-  match-decided =
+  match-decided read =
       behind-test (firstTests (rowTests net (matrix mb)) (net .head .m)) (eqb (rows mb) (net .head .m) && eqb (columns mb) (net .head .n)) (SameSize mb (net .head)) 13 0
       (rowsAnswer (net .head .n) (net .operations) 0 (net .outputs) (matrix mb)) (checked 0 0) checked (omega arith) sizes-say
-      (λ same. rows-decided net (matrix mb) (net .head .m)
+      (λ same. rows-decided net (omega (arith, width-passes nb read .least)) (matrix mb) (net .head .m)
       (length-first (outputAt nb (length (operationsIn nb))) (net .head .m))
       (matrix-length mb ∙ same .same-rows)
       (λ i h. matrix-row-length mb i (omega (arith, same .same-rows)) ∙ same .same-columns))

@@ -13,7 +13,6 @@ use lib.ListN.{length, getD, replicate}
 use lib.Pow.{pow-mono}
 use lib.Seq.{ext-getD}
 use Rattle.integers.proofs.Expression.{at, nat, minus, _⊕_, _⊝_, _⊗_, equal, at-most}
-use Rattle.limits.specs.Limits.{sampleWidth}
 use Rattle.layout_rules.specs.declared.Operation.{Operation}
 use Rattle.layout_rules.specs.declared.Output.{Output}
 use Rattle.board_rules.specs.Machine.{machine, outputValue, times, unit, outputForm}
@@ -81,13 +80,13 @@ module _ (s : ℕ) (enough : 2 ≤ s) where
 
 -- ---- comparing an output's coefficients with a row's
 
-module _ (n : ℕ) (os : List Operation) (o : Output) (row : List ℤ) (l : length row ≡ n) where
+module _ (s n : ℕ) (enough : 2 ≤ s) (os : List Operation) (o : Output) (row : List ℤ) (l : length row ≡ n) where
   -- an output's coefficients are a row's if and only if the output is row times vector for every vector of samples
-  pub coefficients-say : (outputForm n os o ≡ row) ↔ ((xs : List ℤ) → Samples sampleWidth n xs → outputValue (machine xs os) o ≡ times row xs)
+  pub coefficients-say : (outputForm n os o ≡ row) ↔ ((xs : List ℤ) → Samples s n xs → outputValue (machine xs os) o ≡ times row xs)
   coefficients-say = (
-    λ e xs s. output-times n os o xs (s .count) ∙ ap (λ cs. times cs xs) e,
-    λ agree. same-coefficients sampleWidth (omega arith) n (outputForm n os o) row (length-output-form n os o) l (λ xs s. sym (output-times n os o xs (s .count)) ∙ agree xs s),
+    λ e xs x. output-times n os o xs (x .count) ∙ ap (λ cs. times cs xs) e,
+    λ agree. same-coefficients s enough n (outputForm n os o) row (length-output-form n os o) l (λ xs x. sym (output-times n os o xs (x .count)) ∙ agree xs x),
   )
 
-  pub row-says : (sameRow (outputForm n os o) row ≡ true) ↔ ((xs : List ℤ) → Samples sampleWidth n xs → outputValue (machine xs os) o ≡ times row xs)
+  pub row-says : (sameRow (outputForm n os o) row ≡ true) ↔ ((xs : List ℤ) → Samples s n xs → outputValue (machine xs os) o ≡ times row xs)
   row-says = Iff·trans (same-row-says (outputForm n os o) row) coefficients-say

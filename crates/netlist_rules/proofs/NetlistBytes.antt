@@ -2,15 +2,18 @@
 -- Assumes nothing.
 use Prim.Native.Nat.{ℕ, zero, suc, _+_, _<_, _≤_, _/_, _%_}
 use mathlib.Core.Path.{_≡_, refl, sym, ap, subst}
+use mathlib.Core.Bool.{Bool, true, false, cond}
 use mathlib.Core.Logic.{_↔_}
 use mathlib.Core.List.{List, [], _∷_, _++_, flatMap}
 use native.Mathlib.Omega.{arith}
+use lib.Dec.{eqb}
 use lib.ListN.{length, length-append}
-use Rattle.limits.specs.Limits.{maxOperations}
+use Rattle.limits.specs.Limits.{unstatedWidth, maxOperations}
 use Rattle.layout_rules.specs.declared.Operation.{Operation}
 use Rattle.layout_rules.specs.declared.Output.{Output}
 use Rattle.layout_rules.specs.Bytes.{littleEndian, recordBytes}
-use Rattle.layout_rules.specs.Records.{Netlist, headKind, headPayload, headBytes, operationKind, operationPayload, operationBytes, outputKind, outputPayload, outputBytes, totalsKind, totalsPayload, totalsBytes, netlistBytes}
+use Rattle.layout_rules.specs.Records.{Netlist, headKindOf, statedWidth, headPayload, headBytes, operationKind, operationPayload, operationBytes, outputKind, outputPayload, outputBytes, totalsKind, totalsPayload, totalsBytes, netlistBytes}
+use Rattle.layout_rules.proofs.Lengths.{length-head, head-length, kind-small}
 use Rattle.layout_rules.proofs.LittleEndian.{AreBytes}
 use Rattle.board_rules.specs.Netlist.{IsNetlist}
 use Rattle.board_rules.proofs.DepthLaws.{depth-at-most}
@@ -42,17 +45,25 @@ of-all bytes [] each = none
 of-all bytes (x ∷ xs) each =
     both (bytes x) (flatMap bytes xs) (each [] xs x refl) (of-all bytes xs (λ before after y e. each (x ∷ before) after y (ap (λ l. x ∷ l) e)))
 
-module _ (net : Netlist) (is : IsNetlist readLimits net) where
+module _ (net : Netlist) (is : IsNetlist (readLimits (net .head .width)) net) where
   count-small : length (net .operations) ≤ maxOperations
   count-small = omega (arith, is .count, is .head .few)
+
+  of-width : AreBytes (statedWidth (net .head .width))
+  of-width = go (eqb (net .head .width) unstatedWidth)
+    where
+      go : (t : Bool) → AreBytes (cond t [] (net .head .width ∷ []))
+      go true = none
+      go false = one (net .head .width) [] (omega (arith, is .head .width .most)) none
 
   of-head : AreBytes (headBytes (net .head))
   unfolding headPayload
   of-head =
       let h = net .head in
-      of-record headKind (headPayload h) (omega arith) (omega arith)
-      (one (h .m) (h .n ∷ littleEndian (h .operations)) (omega (arith, is .head .limits .rows-most))
-      (one (h .n) (littleEndian (h .operations)) (omega (arith, is .head .limits .columns-most)) (two (h .operations) [] (omega (arith, is .head .few)) none)))
+      of-record (headKindOf (h .width)) (headPayload h) (omega (arith, kind-small (h .width))) (omega (arith, length-head h, head-length (h .width)))
+      (one (h .m) (h .n ∷ littleEndian (h .operations) ++ statedWidth (h .width)) (omega (arith, is .head .limits .rows-most))
+      (one (h .n) (littleEndian (h .operations) ++ statedWidth (h .width)) (omega (arith, is .head .limits .columns-most))
+      (two (h .operations) (statedWidth (h .width)) (omega (arith, is .head .few)) of-width)))
 
   of-operation : (before after : List Operation) (o : Operation) → net .operations ≡ before ++ o ∷ after → AreBytes (operationBytes o)
   unfolding operationPayload

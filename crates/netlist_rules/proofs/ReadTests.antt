@@ -2,32 +2,34 @@
 -- Assumes nothing.
 use Prim.Native.Nat.{ℕ, zero, suc, _+_, _<_, _≤_}
 use mathlib.Core.Path.{_≡_, refl, sym, _∙_, ap, subst}
-use mathlib.Core.Bool.{Bool, true, false, _&&_}
-use mathlib.Core.Logic.{_↔_, inl, inr}
+use mathlib.Core.Bool.{Bool, true, false, cond, _&&_}
+use mathlib.Core.Logic.{_↔_, _⊎_, inl, inr, ⊎-elim}
 use mathlib.Core.List.{List, [], _∷_, _++_}
 use native.Mathlib.Omega.{arith}
 use native.Mathlib.Decide.{decLt}
 use lib.Dec.{ltb, eqb}
 use lib.ListN.{length}
-use borrow.Author.Tests.{ltb-true, ltb-false}
+use borrow.Author.Tests.{ltb-true, ltb-false, eq-eqb, ne-eqb}
+use Rattle.limits.specs.Size.{SampleWidth}
 use Rattle.layout_rules.specs.declared.Head.{Head}
 use Rattle.layout_rules.specs.declared.Operation.{Operation}
 use Rattle.layout_rules.specs.declared.Output.{Output}
 use Rattle.layout_rules.specs.declared.Totals.{Totals}
 use Rattle.layout_rules.specs.Bytes.{word}
-use Rattle.layout_rules.specs.Records.{Netlist, headKind, headLength, operationKind, operationLength, outputKind, outputLength, totalsKind, totalsLength}
-use Rattle.layout_rules.specs.Places.{operationPlace, outputPlace, totalsPlace, headAt, operationAt, outputAt, totalsAt, firstOperations, firstOutputs, operationsIn, outputsIn, totalsPlaceIn, netlistIn}
+use Rattle.layout_rules.specs.Records.{Netlist, headKind, headLength, widthHeadKind, widthHeadLength, operationKind, operationLength, outputKind, outputLength, totalsKind, totalsLength}
+use Rattle.layout_rules.specs.Places.{operationPlace, outputPlace, totalsPlace, headKindIn, headLengthIn, headAt, operationAt, outputAt, totalsAt, firstOperations, firstOutputs, operationsIn, outputsIn, totalsPlaceIn, netlistIn}
 use Rattle.layout_rules.specs.Step.{remaining, stepRefusal}
 use Rattle.layout_rules.specs.Tests.{Test, tested, AllPass, FirstFails, firstTests}
 use Rattle.layout_rules.proofs.Accepted.{no-header, overrun, below-least, not-refused}
 use Rattle.layout_rules.proofs.FirstRecords.{length-first}
-use Rattle.layout_rules.proofs.TestLaws.{Decided, RefusedBy, one-test, no-test, both-parts, answer-decided, declined-first, passed-all}
+use Rattle.layout_rules.proofs.InBytes.{length-due}
+use Rattle.layout_rules.proofs.TestLaws.{Decided, RefusedBy, one-test, no-test, both-parts, answer-decided, declined-first, passed-all, all-split}
 use Rattle.board_rules.specs.Machine.{machine, operationValue, outputValue}
-use Rattle.board_rules.specs.Netlist.{HeadLimits, OperationLimits, OutputLimits, WidthRight, TotalsRight}
-use Rattle.netlist_rules.specs.Read.{Reading, refused, accepted, andThen, readRecord, recordRefusal, headInRange, headRefusal, operationInRange, operationWidth, operationRefusal, outputInRange, outputWidth, outputRefusal, totalsRight, totalsRefusal, widthRight, leftoverRefusal, readHead, readOperations, readOutputs, readTotals, readNetlist, readRefused, readAccepted, readAnswerOf, readAnswer}
+use Rattle.board_rules.specs.Netlist.{OperationLimits, OutputLimits, WidthRight, TotalsRight}
+use Rattle.netlist_rules.specs.Read.{Reading, refused, accepted, andThen, readRecord, recordRefusal, headInRange, widthInRange, headRefusal, operationInRange, operationWidth, operationRefusal, outputInRange, outputWidth, outputRefusal, totalsRight, totalsRefusal, widthRight, leftoverRefusal, readHead, readOperations, readOutputs, readTotals, readNetlist, readRefused, readAccepted, readAnswerOf, readAnswer}
 use Rattle.netlist_rules.specs.declared.ReadAnswer.{ReadAnswer}
 use Rattle.netlist_rules.specs.Exact.{readLimits}
-use Rattle.netlist_rules.specs.Tests.{Whole, Expected, recordTests, headTests, operationTests, outputTests, totalsTests, readTests}
+use Rattle.netlist_rules.specs.Tests.{Whole, Expected, recordTests, HeadRight, headTests, operationTests, outputTests, totalsTests, readTests}
 use Rattle.netlist_rules.proofs.ReadingLaws.{record-decided, then-decided, records-decided}
 use Rattle.netlist_rules.proofs.Conditions.{and-says, same-says, head-says, operation-says, operation-width-says, output-says, output-width-says, totals-says}
 
@@ -87,43 +89,74 @@ module _ (b : List ℕ) (place kind size : ℕ) (enough : 4 ≤ size) where
 
 -- ---- each record of a netlist
 
+-- a second test that says the same
+second-same : (P R : Type 0) {Q S : Type 0} {i j k at r place : ℕ} → Q ↔ S
+    → RefusedBy (tested i at P ∷ tested j at Q ∷ tested k at R ∷ []) r place → RefusedBy (tested i at P ∷ tested j at S ∷ tested k at R ∷ []) r place
+second-same P R is (inl a) = inl (a .0, (a .1 .0, (is .0 (a .1 .1 .0), a .1 .1 .1)))
+second-same P R is (inr (h, inl f)) = inr (h, inl f)
+second-same P R is (inr (h, inr (p, inl f))) = inr (h, inr (p, inl (λ s. f .0 (is .1 s), f .1, f .2)))
+second-same P R is (inr (h, inr (p, inr f))) = inr (h, inr (p, inr (is .0 (f .0), f .1)))
+
 module _ (b : List ℕ) where
+  -- the head of one of the two pairs of kind and length is the one due
+  pub expected-head : Expected b 0 (headKindIn b) (headLengthIn b) ↔ (Expected b 0 headKind headLength ⊎ Expected b 0 widthHeadKind widthHeadLength)
+  unfolding headKindIn headLengthIn
+  expected-head = (there (eqb (word b 2) widthHeadKind) refl, ⊎-elim (λ e. back-plain e) (λ e. back-stated e))
+    where
+      Pairs : Type 0
+      Pairs = Expected b 0 headKind headLength ⊎ Expected b 0 widthHeadKind widthHeadLength
+
+      Due : Bool → Type 0
+      Due t = Expected b 0 (cond t widthHeadKind headKind) (cond t widthHeadLength headLength)
+
+      there : (t : Bool) → eqb (word b 2) widthHeadKind ≡ t → Due t → Pairs
+      there true e d = inr d
+      there false e d = inl d
+
+      back-plain : Expected b 0 headKind headLength → Due (eqb (word b 2) widthHeadKind)
+      back-plain e = rw (ne-eqb (word b 2) widthHeadKind (λ k. omega (arith, k, e .its-kind))) e
+
+      back-stated : Expected b 0 widthHeadKind widthHeadLength → Due (eqb (word b 2) widthHeadKind)
+      back-stated e = rw (eq-eqb (word b 2) widthHeadKind (e .its-kind)) e
+
   head-refused : RefusedBy (headTests b) (headRefusal b) 0
   unfolding headRefusal
-  head-refused = more-refused b 0 headKind headLength (omega arith) (headInRange (headAt b)) (HeadLimits readLimits (headAt b)) 9 (omega arith) (head-says (headAt b))
+  head-refused =
+      second-same (Whole b 0) (HeadRight b) expected-head
+      (more-refused b 0 (headKindIn b) (headLengthIn b) (omega (arith, length-due b)) (headInRange (headAt b) && widthInRange (word b 2) (headAt b .width)) (HeadRight b) 9 (omega arith) (head-says b))
 
   -- operation k behind the operations os
-  abbrev tests-behind : ℕ → List Operation → ℕ → List Test
-  tests-behind n os k =
-      recordTests b (operationPlace headLength k) operationKind operationLength
-      ++ (tested 9 (operationPlace headLength k) (OperationLimits readLimits (n + k) (operationAt b k))
-      ∷ tested 10 (operationPlace headLength k) (WidthRight readLimits n (λ xs. operationValue (machine xs os) (operationAt b k)) (operationAt b k .width))
+  abbrev tests-behind : ℕ → ℕ → List Operation → ℕ → List Test
+  tests-behind s n os k =
+      recordTests b (operationPlace (headLengthIn b) k) operationKind operationLength
+      ++ (tested 9 (operationPlace (headLengthIn b) k) (OperationLimits (readLimits s) (n + k) (operationAt b k))
+      ∷ tested 10 (operationPlace (headLengthIn b) k) (WidthRight (readLimits s) n (λ xs. operationValue (machine xs os) (operationAt b k)) (operationAt b k .width))
       ∷ [])
 
-  operation-refused : (n : ℕ) (os : List Operation) → RefusedBy (tests-behind n os (length os)) (operationRefusal b n os) (operationPlace headLength (length os))
+  operation-refused : (s n : ℕ) (os : List Operation) → RefusedBy (tests-behind s n os (length os)) (operationRefusal b s n os) (operationPlace (headLengthIn b) (length os))
   unfolding operationRefusal
-  operation-refused n os =
+  operation-refused s n os =
       let o = operationAt b (length os) in
-      fields-refused b (operationPlace headLength (length os)) operationKind operationLength (omega arith) (operationInRange (n + length os) o) (widthRight (o .width) (operationWidth n os o))
-      (OperationLimits readLimits (n + length os) o) (WidthRight readLimits n (λ xs. operationValue (machine xs os) o) (o .width))
-      (operation-says (n + length os) o) (operation-width-says n os o)
+      fields-refused b (operationPlace (headLengthIn b) (length os)) operationKind operationLength (omega arith) (operationInRange (n + length os) o) (widthRight (o .width) (operationWidth s n os o))
+      (OperationLimits (readLimits s) (n + length os) o) (WidthRight (readLimits s) n (λ xs. operationValue (machine xs os) o) (o .width))
+      (operation-says s (n + length os) o) (operation-width-says s n os o)
 
-  each-operation-refused : (n k : ℕ) → RefusedBy (operationTests b n k) (operationRefusal b n (firstOperations b k)) (operationPlace headLength k)
-  each-operation-refused n k =
+  each-operation-refused : (s n k : ℕ) → RefusedBy (operationTests b s n k) (operationRefusal b s n (firstOperations b k)) (operationPlace (headLengthIn b) k)
+  each-operation-refused s n k =
       let os = firstOperations b k in
-      subst (λ j. RefusedBy (tests-behind n os j) (operationRefusal b n os) (operationPlace headLength j)) (length-first (operationAt b) k) (operation-refused n os)
+      subst (λ j. RefusedBy (tests-behind s n os j) (operationRefusal b s n os) (operationPlace (headLengthIn b) j)) (length-first (operationAt b) k) (operation-refused s n os)
 
-  output-refused : (n : ℕ) (os : List Operation) (i : ℕ) → RefusedBy (outputTests b n os i) (outputRefusal b n os i) (outputPlace headLength (length os) i)
+  output-refused : (s n : ℕ) (os : List Operation) (i : ℕ) → RefusedBy (outputTests b s n os i) (outputRefusal b s n os i) (outputPlace (headLengthIn b) (length os) i)
   unfolding outputRefusal
-  output-refused n os i =
+  output-refused s n os i =
       let o = outputAt b (length os) i in
-      fields-refused b (outputPlace headLength (length os) i) outputKind outputLength (omega arith) (outputInRange (n + length os) o) (widthRight (o .width) (outputWidth n os o))
-      (OutputLimits readLimits (n + length os) o) (WidthRight readLimits n (λ xs. outputValue (machine xs os) o) (o .width))
-      (output-says (n + length os) o) (output-width-says n os o)
+      fields-refused b (outputPlace (headLengthIn b) (length os) i) outputKind outputLength (omega arith) (outputInRange (n + length os) o) (widthRight (o .width) (outputWidth s n os o))
+      (OutputLimits (readLimits s) (n + length os) o) (WidthRight (readLimits s) n (λ xs. outputValue (machine xs os) o) (o .width))
+      (output-says s (n + length os) o) (output-width-says s n os o)
 
-  each-output-refused : (n : ℕ) (os : List Operation) (i : ℕ)
-      → RefusedBy (outputTests b n os i) (outputRefusal b n os (length (firstOutputs b (length os) i))) (outputPlace headLength (length os) i)
-  each-output-refused n os i = rw (length-first (outputAt b (length os)) i) (output-refused n os i)
+  each-output-refused : (s n : ℕ) (os : List Operation) (i : ℕ)
+      → RefusedBy (outputTests b s n os i) (outputRefusal b s n os (length (firstOutputs b (length os) i))) (outputPlace (headLengthIn b) (length os) i)
+  each-output-refused s n os i = rw (length-first (outputAt b (length os)) i) (output-refused s n os i)
 
   totals-refused : (place : ℕ) (h : Head) (os : List Operation)
       → RefusedBy (recordTests b place totalsKind totalsLength ++ (tested 11 place (TotalsRight h os (totalsAt b place)) ∷ [])) (totalsRefusal b place h os) place
@@ -146,15 +179,15 @@ module _ (b : List ℕ) where
 
   abbrev rest-of-outputs : Head → List Operation → List Output → Reading Netlist
   rest-of-outputs h os outputs =
-      let place = totalsPlace headLength (length os) (length outputs) in
+      let place = totalsPlace (headLengthIn b) (length os) (length outputs) in
       andThen (readTotals b place h os) (rest-of-totals place h os outputs)
 
   totals-decided : (h : Head) (os : List Operation) (outputs : List Output)
-      → let place = totalsPlace headLength (length os) (length outputs) in
+      → let place = totalsPlace (headLengthIn b) (length os) (length outputs) in
       Decided (totalsTests b place h os) (rest-of-outputs h os outputs)
       (accepted (record { head = h; operations = os; outputs = outputs; totals = totalsAt b place })) refused
   totals-decided h os outputs =
-      let place = totalsPlace headLength (length os) (length outputs) in
+      let place = totalsPlace (headLengthIn b) (length os) (length outputs) in
       let t = totalsAt b place in
       let net : Netlist = record { head = h; operations = os; outputs = outputs; totals = t } in
       then-decided (recordTests b place totalsKind totalsLength ++ (tested 11 place (TotalsRight h os t) ∷ [])) (tested 12 (place + totalsLength) (length b ≤ place + totalsLength) ∷ [])
@@ -170,18 +203,27 @@ module _ (b : List ℕ) where
       let outputs = outputsIn b in
       let net = netlistIn b in
       let tests = totalsTests b (totalsPlaceIn b) h os in
-      let behind-outputs = firstTests (outputTests b (h .n) os) (h .m) ++ tests in
-      let behind-head = firstTests (operationTests b (h .n)) (h .operations) ++ behind-outputs in
+      let behind-outputs = firstTests (outputTests b (h .width) (h .n) os) (h .m) ++ tests in
+      let behind-head = firstTests (operationTests b (h .width) (h .n)) (h .operations) ++ behind-outputs in
       then-decided (headTests b) behind-head (readHead b)
       (λ h. andThen (readOperations b h) (λ os. andThen (readOutputs b h os) (rest-of-outputs h os))) h net
       (record-decided (headTests b) (headRefusal b) 0 h head-refused)
-      (then-decided (firstTests (operationTests b (h .n)) (h .operations)) behind-outputs (readOperations b h)
+      (then-decided (firstTests (operationTests b (h .width) (h .n)) (h .operations)) behind-outputs (readOperations b h)
       (λ os. andThen (readOutputs b h os) (rest-of-outputs h os)) os net
-      (records-decided (operationRefusal b (h .n)) (operationPlace headLength) (operationAt b) (operationTests b (h .n)) (each-operation-refused (h .n)) (h .operations))
-      (then-decided (firstTests (outputTests b (h .n) os) (h .m)) tests (readOutputs b h os) (rest-of-outputs h os) outputs net
-      (records-decided (λ before. outputRefusal b (h .n) os (length before)) (outputPlace headLength (length os)) (outputAt b (length os)) (outputTests b (h .n) os)
-      (each-output-refused (h .n) os) (h .m))
+      (records-decided (operationRefusal b (h .width) (h .n)) (operationPlace (headLengthIn b)) (operationAt b) (operationTests b (h .width) (h .n)) (each-operation-refused (h .width) (h .n)) (h .operations))
+      (then-decided (firstTests (outputTests b (h .width) (h .n) os) (h .m)) tests (readOutputs b h os) (rest-of-outputs h os) outputs net
+      (records-decided (λ before. outputRefusal b (h .width) (h .n) os (length before)) (outputPlace (headLengthIn b) (length os)) (outputAt b (length os)) (outputTests b (h .width) (h .n) os)
+      (each-output-refused (h .width) (h .n) os) (h .m))
       (totals-decided h os outputs)))
+
+-- where all pass, the head's width is a sample width
+pub width-passes : (b : List ℕ) → AllPass (readTests b) → SampleWidth (headAt b .width)
+unfolding readTests
+width-passes b all =
+    let h = headAt b in
+    let os = operationsIn b in
+    all-split (headTests b) (firstTests (operationTests b (h .width) (h .n)) (h .operations)
+    ++ (firstTests (outputTests b (h .width) (h .n) os) (h .m) ++ totalsTests b (totalsPlaceIn b) h os)) all .0 .1 .1 .0 .limits .width
 
 never-both : {A : Type 0} (x : A) (r p : ℕ) → accepted x ≡ refused r p → ⊥
 never-both x r p e = let z : _≡_ {A = ℕ} 0 1 = cc in omega arith

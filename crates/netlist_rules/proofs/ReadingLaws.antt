@@ -28,18 +28,21 @@ then-decided ts us first rest x y (inl a) (inr d) =
     inr (d .0, d .1, d .2, ap (λ m. andThen m rest) (a .0) ∙ d .3, fails-after (d .0) (d .1) ts us (a .1) (d .4))
 then-decided ts us first rest x y (inr f) d = inr (f .0, f .1, f .2, ap (λ m. andThen m rest) (f .3), fails-before (f .0) (f .1) ts us (f .4))
 
--- an answer behind a netlist
+-- an answer behind a netlist, decided where the netlist passes
 pub behind-reading : {A X : Type 0} (ts us : List Test) (reading : Reading A) (x : A) (next : A → X) (passed : X) (declined : ℕ → ℕ → X)
-    → Decided ts reading (accepted x) refused → Decided us (next x) passed declined
+    → Decided ts reading (accepted x) refused → (AllPass ts → Decided us (next x) passed declined)
     → Decided (ts ++ us) (elim reading [ refused r p ↦ declined r p | accepted y ↦ next y ]) passed declined
 behind-reading {A = A} {X = X} ts us reading x next passed declined = go
   where
     answer : Reading A → X
     answer m = elim m [ refused r p ↦ declined r p | accepted y ↦ next y ]
 
-    go : Decided ts reading (accepted x) refused → Decided us (next x) passed declined → Decided (ts ++ us) (answer reading) passed declined
-    go (inl a) (inl d) = inl (ap answer (a .0) ∙ d .0, all-append ts us (a .1) (d .1))
-    go (inl a) (inr d) = inr (d .0, d .1, d .2, ap answer (a .0) ∙ d .3, fails-after (d .0) (d .1) ts us (a .1) (d .4))
+    behind : (reading ≡ accepted x) × AllPass ts → Decided us (next x) passed declined → Decided (ts ++ us) (answer reading) passed declined
+    behind a (inl d) = inl (ap answer (a .0) ∙ d .0, all-append ts us (a .1) (d .1))
+    behind a (inr d) = inr (d .0, d .1, d .2, ap answer (a .0) ∙ d .3, fails-after (d .0) (d .1) ts us (a .1) (d .4))
+
+    go : Decided ts reading (accepted x) refused → (AllPass ts → Decided us (next x) passed declined) → Decided (ts ++ us) (answer reading) passed declined
+    go (inl a) d = behind a (d (a .1))
     go (inr f) d = inr (f .0, f .1, f .2, ap answer (f .3), fails-before (f .0) (f .1) ts us (f .4))
 
 -- ---- records of one kind, one after another

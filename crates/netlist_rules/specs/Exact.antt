@@ -5,7 +5,7 @@ use mathlib.Core.Path.{_≡_}
 use mathlib.Core.List.{List, [], map}
 use lib.IntN.{ℤ, pos}
 use lib.ListN.{getD}
-use Rattle.limits.specs.Limits.{positions, sampleWidth, maxOperations, maxWidth}
+use Rattle.limits.specs.Limits.{positions, maxOperations, maxWidth}
 use Rattle.layout_rules.specs.declared.Head.{Head}
 use Rattle.layout_rules.specs.Matrix.{rows, columns, matrixRefusal, matrix}
 use Rattle.layout_rules.specs.Records.{Netlist, netlistBytes}
@@ -16,24 +16,24 @@ use Rattle.netlist_rules.specs.Run.{netlistOutputs}
 
 -- ---- a netlist
 
--- what read takes: "Shifts are 0 to 15; widths read are at most 40"
-abbrev pub readLimits : Limits
-readLimits = record { sample = sampleWidth; positions = positions; widest = maxWidth; most = maxOperations }
+-- what read takes where samples have s bits: "Shifts are 0 to 15; widths read are at most 44"
+abbrev pub readLimits : ℕ → Limits
+readLimits s = record { sample = s; positions = positions; widest = maxWidth; most = maxOperations }
 
 -- b is the bytes of the netlist
 pub record IsNetlistBytes (b : List ℕ) (net : Netlist) : Type 0 where
-  pub netlist : IsNetlist readLimits net
+  pub netlist : IsNetlist (readLimits (net .head .width)) net
   pub bytes : b ≡ netlistBytes net
 
 -- ---- what it computes
 
--- for every vector of samples the board machine's outputs are row times vector
+-- for every vector of samples of the head's width the board machine's outputs are row times vector
 abbrev pub Computes : Netlist → List (List ℤ) → Type 0
-Computes net rows = (xs : List ℤ) → Samples sampleWidth (net .head .n) xs → netlistOutputs net xs ≡ map (λ row. times row xs) rows
+Computes net rows = (xs : List ℤ) → Samples (net .head .width) (net .head .n) xs → netlistOutputs net xs ≡ map (λ row. times row xs) rows
 
 -- output i is row i times vector for every vector of samples
 abbrev pub ComputesRow : Netlist → List (List ℤ) → ℕ → Type 0
-ComputesRow net rows i = (xs : List ℤ) → Samples sampleWidth (net .head .n) xs → getD (netlistOutputs net xs) i (pos 0) ≡ times (getD rows i []) xs
+ComputesRow net rows i = (xs : List ℤ) → Samples (net .head .width) (net .head .n) xs → getD (netlistOutputs net xs) i (pos 0) ≡ times (getD rows i []) xs
 
 -- m and n of matrix and netlist agree
 pub record SameSize (matrixBytes : List ℕ) (h : Head) : Type 0 where

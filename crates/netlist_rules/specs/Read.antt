@@ -5,19 +5,20 @@ use mathlib.Core.Bool.{Bool, true, false, not, _&&_, _||_}
 use mathlib.Core.List.{List, [], _∷_, _++_}
 use lib.Dec.{leb, ltb, eqb}
 use lib.ListN.{length}
-use Rattle.limits.specs.Limits.{maxShift, sampleWidth, maxOperations, maxWidth}
-use Rattle.limits.specs.Size.{sizeOutside}
+use Rattle.limits.specs.Limits.{maxShift, unstatedWidth, maxOperations, maxWidth}
+use Rattle.limits.specs.Size.{sizeOutside, sampleWidthOutside}
 use Rattle.layout_rules.specs.declared.Head.{Head}
 use Rattle.layout_rules.specs.declared.Operation.{Operation}
 use Rattle.layout_rules.specs.declared.Output.{Output}
 use Rattle.layout_rules.specs.declared.Totals.{Totals}
 use Rattle.layout_rules.specs.Bytes.{word}
-use Rattle.layout_rules.specs.Records.{Netlist, headKind, headLength, operationKind, operationLength, outputKind, outputLength, totalsKind, totalsLength}
-use Rattle.layout_rules.specs.Places.{operationPlace, outputPlace, totalsPlace, headAt, operationAt, outputAt, totalsAt}
+use Rattle.layout_rules.specs.Records.{Netlist, widthHeadKind, operationKind, operationLength, outputKind, outputLength, totalsKind, totalsLength}
+use Rattle.layout_rules.specs.Places.{operationPlace, outputPlace, totalsPlace, headKindIn, headLengthIn, headAt, operationAt, outputAt, totalsAt}
 use Rattle.layout_rules.specs.Step.{stepRefusal}
 use Rattle.board_rules.specs.Machine.{entryForm, outputForm, depth}
 use Rattle.board_rules.specs.Width.{width}
 use Rattle.netlist_rules.specs.declared.ReadAnswer.{ReadAnswer}
+use Rattle.netlist_rules.specs.declared.SampleWidthAnswer.{SampleWidthAnswer}
 
 -- ---- refusals of one record; 0 is none
 
@@ -35,11 +36,15 @@ headInRange h =
     (eqb (h .m) 0 && eqb (h .n) 0 && eqb (h .operations) 0)
     || (not (sizeOutside (h .m) (h .n)) && leb (h .operations) maxOperations)
 
+-- 9: the width of a head of a kind is not 8 to 24, or is 16 where it is stated
+abbrev pub widthInRange : ℕ → ℕ → Bool
+widthInRange kind s = not (sampleWidthOutside s) && not (eqb kind widthHeadKind && eqb s unstatedWidth)
+
 unfoldable pub headRefusal : List ℕ → ℕ
 headRefusal bytes =
-    elim (recordRefusal bytes 0 headKind headLength) [
+    elim (recordRefusal bytes 0 (headKindIn bytes) (headLengthIn bytes)) [
       | suc r ↦ suc r
-      | zero ↦ elim (headInRange (headAt bytes)) [ true ↦ 0 | false ↦ 9 ]
+      | zero ↦ elim (headInRange (headAt bytes) && widthInRange (word bytes 2) (headAt bytes .width)) [ true ↦ 0 | false ↦ 9 ]
     ]
 
 -- 9: a field out of range, or an operand not earlier than its operation, whose symbol is given
@@ -47,24 +52,24 @@ abbrev pub operationInRange : ℕ → Operation → Bool
 operationInRange symbol o =
     leb (o .sign) 1 && (leb (o .sa) maxShift && (leb (o .sb) maxShift && (ltb (o .a) symbol && ltb (o .b) symbol)))
 
--- 10: the recorded width is not the width, or "the width exceeds 40"
+-- 10: the recorded width is not the width, or "the width exceeds 44"
 abbrev pub widthRight : ℕ → ℕ → Bool
 widthRight recorded w = eqb recorded w && leb w maxWidth
 
--- the width of an operation behind the operations os
-abbrev pub operationWidth : ℕ → List Operation → Operation → ℕ
-operationWidth n os o = width sampleWidth (entryForm n (os ++ (o ∷ [])) (n + length os))
+-- the width of an operation behind the operations os, over samples of s bits
+abbrev pub operationWidth : ℕ → ℕ → List Operation → Operation → ℕ
+operationWidth s n os o = width s (entryForm n (os ++ (o ∷ [])) (n + length os))
 
 -- the operation that follows the operations os
-unfoldable pub operationRefusal : List ℕ → ℕ → List Operation → ℕ
-operationRefusal bytes n os =
-    elim (recordRefusal bytes (operationPlace headLength (length os)) operationKind operationLength) [
+unfoldable pub operationRefusal : List ℕ → ℕ → ℕ → List Operation → ℕ
+operationRefusal bytes s n os =
+    elim (recordRefusal bytes (operationPlace (headLengthIn bytes) (length os)) operationKind operationLength) [
       | suc r ↦ suc r
       | zero ↦
           let o = operationAt bytes (length os) in
           elim (operationInRange (n + length os) o) [
             | false ↦ 9
-            | true ↦ elim (widthRight (o .width) (operationWidth n os o)) [ true ↦ 0 | false ↦ 10 ]
+            | true ↦ elim (widthRight (o .width) (operationWidth s n os o)) [ true ↦ 0 | false ↦ 10 ]
           ]
     ]
 
@@ -74,19 +79,19 @@ outputInRange symbols o =
     leb (o .sign) 2 && (leb (o .shift) maxShift && (ltb (o .symbol) symbols
     && (ltb (o .sign) 2 || (eqb (o .symbol) 0 && (eqb (o .shift) 0 && eqb (o .width) 1)))))
 
-abbrev pub outputWidth : ℕ → List Operation → Output → ℕ
-outputWidth n os o = width sampleWidth (outputForm n os o)
+abbrev pub outputWidth : ℕ → ℕ → List Operation → Output → ℕ
+outputWidth s n os o = width s (outputForm n os o)
 
 -- output i of a netlist of the operations os
-unfoldable pub outputRefusal : List ℕ → ℕ → List Operation → ℕ → ℕ
-outputRefusal bytes n os i =
-    elim (recordRefusal bytes (outputPlace headLength (length os) i) outputKind outputLength) [
+unfoldable pub outputRefusal : List ℕ → ℕ → ℕ → List Operation → ℕ → ℕ
+outputRefusal bytes s n os i =
+    elim (recordRefusal bytes (outputPlace (headLengthIn bytes) (length os) i) outputKind outputLength) [
       | suc r ↦ suc r
       | zero ↦
           let o = outputAt bytes (length os) i in
           elim (outputInRange (n + length os) o) [
             | false ↦ 9
-            | true ↦ elim (widthRight (o .width) (outputWidth n os o)) [ true ↦ 0 | false ↦ 10 ]
+            | true ↦ elim (widthRight (o .width) (outputWidth s n os o)) [ true ↦ 0 | false ↦ 10 ]
           ]
     ]
 
@@ -128,11 +133,13 @@ abbrev pub readHead : List ℕ → Reading Head
 readHead bytes = readRecord (headRefusal bytes) 0 (headAt bytes)
 
 abbrev pub readOperations : List ℕ → Head → Reading (List Operation)
-readOperations bytes h = readRecords (operationRefusal bytes (h .n)) (operationPlace headLength) (operationAt bytes) (h .operations) []
+readOperations bytes h =
+    readRecords (operationRefusal bytes (h .width) (h .n)) (operationPlace (headLengthIn bytes)) (operationAt bytes) (h .operations) []
 
 abbrev pub readOutputs : List ℕ → Head → List Operation → Reading (List Output)
 readOutputs bytes h os =
-    readRecords (λ outputs. outputRefusal bytes (h .n) os (length outputs)) (outputPlace headLength (length os)) (outputAt bytes (length os)) (h .m) []
+    readRecords (λ outputs. outputRefusal bytes (h .width) (h .n) os (length outputs)) (outputPlace (headLengthIn bytes) (length os))
+    (outputAt bytes (length os)) (h .m) []
 
 abbrev pub readTotals : List ℕ → ℕ → Head → List Operation → Reading Totals
 readTotals bytes place h os = readRecord (totalsRefusal bytes place h os) place (totalsAt bytes place)
@@ -146,7 +153,7 @@ readNetlist bytes =
     andThen (readHead bytes) (λ h.
     andThen (readOperations bytes h) (λ os.
     andThen (readOutputs bytes h os) (λ outputs.
-    let place = totalsPlace headLength (length os) (length outputs) in
+    let place = totalsPlace (headLengthIn bytes) (length os) (length outputs) in
     andThen (readTotals bytes place h os) (λ t.
     readRecord (leftoverRefusal bytes (place + totalsLength)) (place + totalsLength) (record { head = h; operations = os; outputs = outputs; totals = t })))))
 
@@ -165,3 +172,12 @@ readAnswerOf (accepted net) = readAccepted net
 
 unfoldable pub readAnswer : List ℕ → ReadAnswer
 readAnswer bytes = readAnswerOf (readNetlist bytes)
+
+-- ---- the answer of sample_width: the head's, for any bytes; a refusal has width 0
+
+abbrev pub sampleWidthOf : Reading Netlist → SampleWidthAnswer
+sampleWidthOf (refused r place) = record { refusal = r; place = place; width = 0 }
+sampleWidthOf (accepted net) = record { refusal = 0; place = 0; width = net .head .width }
+
+unfoldable pub sampleWidthAnswer : List ℕ → SampleWidthAnswer
+sampleWidthAnswer bytes = sampleWidthOf (readNetlist bytes)

@@ -1,4 +1,4 @@
-// Document 01, "Reading, checking, running": what read, check and run answer. Rests on `limits`,
+// Document 01, "Reading, checking, running": what read, sample_width, check and run answer. Rests on `limits`,
 // `layout_rules` and `board_rules` alone, and sees nothing of the elimination; the theorems about these answers stand in proofs/.
 ghost use mathlib.Core.Path.{_≡_};
 ghost use Rattle.netlist_rules.specs.Read.{readRefused};
@@ -27,6 +27,13 @@ impl ReadAnswer {
             depth: 0,
         }
     }
+}
+
+// What sample_width returns: a refusal and its place, or the sample width of the head.
+pub struct SampleWidthAnswer {
+    pub refusal: u8,
+    pub place: usize,
+    pub width: u8,
 }
 
 pub struct CheckAnswer {

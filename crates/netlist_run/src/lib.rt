@@ -1,6 +1,7 @@
-// Document 01, "Reading, checking, running" and "Why a record was declined": running a netlist on samples, refusals 7 to 12, 15, 16, as
-// `netlist_rules` has it. Rests on `netlist_read`.
-use layout_records::places::HEAD_LENGTH;
+// Document 01, "Reading, checking, running" and "Why a record was declined": running a netlist on samples, refusals 7 to 12, 15, 16, 21,
+// as `netlist_rules` has it. Rests on `netlist_read`, and on `board_width` for a number's positive and negative part.
+use layout_head::due_length;
+use layout_head::head_at;
 use layout_records::places::operation_place;
 use layout_records::places::output_place;
 use layout_records::read::operation_at;
@@ -11,16 +12,17 @@ ghost use mathlib.Core.Path.{_≡_};
 ghost use mathlib.Core.List.{map};
 ghost use Prim.Native.Nat.{_+_, _≤_};
 ghost use lib.ListN.{length, take};
-ghost use Rattle.limits.specs.Limits.{maxColumns, sampleWidth, maxSymbols};
-ghost use Rattle.layout_rules.specs.Places.{headAt, operationsIn, outputsIn};
+ghost use Rattle.limits.specs.Limits.{maxColumns, maxSymbols};
+ghost use Rattle.limits.specs.Size.{SampleWidth};
+ghost use Rattle.layout_rules.specs.Places.{headLengthIn, headAt, operationsIn, outputsIn};
 ghost use Rattle.board_rules.specs.Machine.{machine, outputValue};
 ghost use Rattle.board_rules.specs.Width.{Samples};
-ghost use Rattle.netlist_rules.specs.Run.{runAnswer, runOutputs};
+ghost use Rattle.netlist_rules.specs.Run.{fits, fitAnswer, runAnswer, runOutputs};
 ghost use Rattle.netlist_read.specs.Tables.{NetlistRead};
 ghost use Rattle.netlist_run.specs.Board.{SamplesHeld, BoardReady};
 
 // The samples, the first values of the board machine.
-fn start_values(samples: &[i16], values: &mut [i64; MAX_SYMBOLS])
+fn start_values(samples: &[i32], values: &mut [i64; MAX_SYMBOLS])
     requires { ⌜ (length (now samples) ≤ maxColumns) × (length (now values) ≡ maxSymbols) ⌝ }
     ensures { λ r. ⌜ SamplesHeld (now (samples .entry)) (now (values .exit)) ⌝ }
 {
@@ -30,15 +32,53 @@ fn start_values(samples: &[i16], values: &mut [i64; MAX_SYMBOLS])
     }
 }
 
-// The operations in order, each value at its symbol.
-fn run_operations(netlist: &[u8], n: usize, operations: usize, values: &mut [i64; MAX_SYMBOLS])
-    requires { ⌜ NetlistRead (now netlist) ⌝ }
+// Whether a sample fits s bits.
+fn sample_fits(x: i64, s: u8) -> bool
+    requires { ⌜ SampleWidth s ⌝ }
+    ensures { λ r. ⌜ r ≡ fits s x ⌝ }
+{
+    let half = board_width::scaled(1, s - 1);
+    if x < 0 {
+        return board_width::negative_part(x) <= half;
+    }
+    board_width::positive_part(x) < half
+}
+
+// 21 at the lowest index of a sample, of those in the table, that does not fit s bits; else 0.
+fn fit_answer(values: &[i64; MAX_SYMBOLS], n: usize, s: u8) -> RunAnswer
+    requires { ⌜ SampleWidth s × ((n ≤ maxColumns) × (length (now values) ≡ maxSymbols)) ⌝ }
+    ensures { λ r. ⌜ r ≡ fitAnswer s 0 (take n (now (values .entry))) ⌝ }
+{
+    for i in 0..n {
+        let x = values[i];
+        if !sample_fits(x, s) {
+            return RunAnswer {
+                refusal: 21,
+                place: i,
+            };
+        }
+    }
+    RunAnswer {
+        refusal: 0,
+        place: 0,
+    }
+}
+
+// The operations in order, each value at its symbol. They start behind the head.
+fn run_operations(
+    netlist: &[u8],
+    start: usize,
+    n: usize,
+    operations: usize,
+    values: &mut [i64; MAX_SYMBOLS],
+)
+    requires { ⌜ NetlistRead (now netlist) × (start ≡ headLengthIn (now netlist)) ⌝ }
     requires { ⌜ (n ≡ headAt (now netlist) .n) × (operations ≡ headAt (now netlist) .operations) ⌝ }
-    requires { ⌜ (length (now values) ≡ maxSymbols) × Samples sampleWidth n (take n (now values)) ⌝ }
+    requires { ⌜ (length (now values) ≡ maxSymbols) × Samples (headAt (now netlist) .width) n (take n (now values)) ⌝ }
     ensures { λ r. ⌜ (length (now (values .exit)) ≡ maxSymbols) × (take (n + operations) (now (values .exit)) ≡ machine (take n (now (values .entry))) (operationsIn (now (netlist .entry)))) ⌝ }
 {
     for k in 0..operations {
-        let o = operation_at(netlist, operation_place(HEAD_LENGTH, k));
+        let o = operation_at(netlist, operation_place(start, k));
         board_tables::append_value(values, o, n + k);
     }
 }
@@ -46,18 +86,19 @@ fn run_operations(netlist: &[u8], n: usize, operations: usize, values: &mut [i64
 // The outputs, from the values of all entries.
 fn fill_outputs(
     netlist: &[u8],
+    start: usize,
     m: usize,
     operations: usize,
     values: &[i64; MAX_SYMBOLS],
     outputs: &mut [i64],
 )
-    requires { ⌜ NetlistRead (now netlist) ⌝ }
+    requires { ⌜ NetlistRead (now netlist) × (start ≡ headLengthIn (now netlist)) ⌝ }
     requires { ⌜ (m ≡ headAt (now netlist) .m) × ((operations ≡ headAt (now netlist) .operations) × (length (now outputs) ≡ m)) ⌝ }
     requires { ⌜ BoardReady (now netlist) (now values) ⌝ }
     ensures { λ r. ⌜ now (outputs .exit) ≡ map (outputValue (now (values .entry))) (outputsIn (now (netlist .entry))) ⌝ }
 {
     for i in 0..m {
-        let o = output_at(netlist, output_place(HEAD_LENGTH, operations, i));
+        let o = output_at(netlist, output_place(start, operations, i));
         let symbol = o.symbol as usize;
         let x = values[symbol];
         let y = board_tables::output_value(o.sign, x, o.shift);
@@ -66,8 +107,8 @@ fn fill_outputs(
 }
 
 // The board machine's outputs for a vector of samples, for any bytes; a refusal leaves every output as it was.
-pub fn run(netlist: &[u8], samples: &[i16], outputs: &mut [i64]) -> RunAnswer
-    ensures { λ r. ⌜ r ≡ runAnswer (now (netlist .entry)) (length (now (samples .entry))) (length (now (outputs .entry))) ⌝ }
+pub fn run(netlist: &[u8], samples: &[i32], outputs: &mut [i64]) -> RunAnswer
+    ensures { λ r. ⌜ r ≡ runAnswer (now (netlist .entry)) (now (samples .entry)) (length (now (outputs .entry))) ⌝ }
     ensures { λ r. ⌜ now (outputs .exit) ≡ runOutputs (now (netlist .entry)) (now (samples .entry)) (now (outputs .entry)) ⌝ }
 {
     let mut forms = board_tables::blank_forms();
@@ -93,11 +134,17 @@ pub fn run(netlist: &[u8], samples: &[i16], outputs: &mut [i64]) -> RunAnswer
             place: 0,
         };
     }
-    let operations = read.operations as usize;
     let mut values = board_tables::blank_values();
     start_values(samples, &mut values);
-    run_operations(netlist, n, operations, &mut values);
-    fill_outputs(netlist, m, operations, &values, outputs);
+    let head = head_at(netlist);
+    let fit = fit_answer(&values, n, head.width);
+    if fit.refusal != 0 {
+        return fit;
+    }
+    let start = due_length(netlist);
+    let operations = read.operations as usize;
+    run_operations(netlist, start, n, operations, &mut values);
+    fill_outputs(netlist, start, m, operations, &values, outputs);
     RunAnswer {
         refusal: 0,
         place: 0,

@@ -15,19 +15,21 @@ use Rattle.layout_rules.specs.declared.Head.{Head}
 use Rattle.layout_rules.specs.declared.Operation.{Operation}
 use Rattle.layout_rules.specs.declared.StepNumbers.{StepNumbers}
 use Rattle.layout_rules.specs.Bytes.{word}
-use Rattle.layout_rules.specs.Records.{headKind, headLength, operationKind, operationLength, outputKind, outputLength, totalsKind, totalsLength}
-use Rattle.layout_rules.specs.Places.{operationPlace, outputPlace, headAt, operationAt, outputAt, totalsAt, firstRecords, firstOperations}
+use Rattle.layout_rules.specs.Records.{headLengthOf, operationKind, operationLength, outputKind, outputLength, totalsKind, totalsLength}
+use Rattle.layout_rules.specs.Places.{operationPlace, outputPlace, headKindIn, headLengthIn, headAt, operationAt, outputAt, totalsAt, firstRecords, firstOperations}
 use Rattle.layout_rules.specs.Step.{stepRefusal, stepNumbers}
-use Rattle.layout_rules.proofs.Accepted.{numbers-refused, numbers-accepted}
+use Rattle.layout_rules.proofs.Accepted.{no-header, numbers-refused, numbers-accepted}
 use Rattle.layout_rules.proofs.FirstRecords.{length-first}
+use Rattle.layout_rules.proofs.InBytes.{length-due, length-is-due}
 use Rattle.layout_rules.proofs.TestLaws.{RefusedBy}
-use Rattle.board_rules.specs.Netlist.{HeadLimits, OperationLimits, OutputLimits, TotalsRight}
-use Rattle.netlist_rules.specs.Read.{refused, accepted, readRecords, recordRefusal, headInRange, headRefusal, operationInRange, operationWidth, operationRefusal, outputInRange, outputWidth, outputRefusal, totalsRight, totalsRefusal, widthRight}
+use Rattle.board_rules.specs.Netlist.{OperationLimits, OutputLimits, TotalsRight}
+use Rattle.netlist_rules.specs.Read.{refused, accepted, readRecords, recordRefusal, headInRange, widthInRange, headRefusal, operationInRange, operationWidth, operationRefusal, outputInRange, outputWidth, outputRefusal, totalsRight, totalsRefusal, widthRight}
 use Rattle.netlist_rules.specs.Exact.{readLimits}
-use Rattle.netlist_rules.specs.Tests.{recordTests}
+use Rattle.netlist_rules.specs.Tests.{recordTests, HeadRight}
 use Rattle.netlist_rules.proofs.ReadingLaws.{read-more, read-stops}
 use Rattle.netlist_rules.proofs.Conditions.{and-says, same-says, at-most-says, head-says, operation-says, output-says, totals-says}
-use Rattle.netlist_rules.proofs.ReadTests.{record-refused}
+use Rattle.netlist_rules.proofs.ReadTests.{record-refused, expected-head}
+use Rattle.netlist_rules.proofs.ReadAccepts.{head-expected}
 
 -- ---- tests
 
@@ -137,14 +139,14 @@ module _ (b : List ℕ) (place kind size : ℕ) where
 -- ---- the refusals of a netlist's records before their fields are tested
 
 abbrev pub headRecordRefusal : List ℕ → ℕ
-headRecordRefusal b = recordRefusal b 0 headKind headLength
+headRecordRefusal b = recordRefusal b 0 (headKindIn b) (headLengthIn b)
 
 abbrev pub operationRecordRefusal : List ℕ → ℕ → ℕ
-operationRecordRefusal b k = recordRefusal b (operationPlace headLength k) operationKind operationLength
+operationRecordRefusal b k = recordRefusal b (operationPlace (headLengthIn b) k) operationKind operationLength
 
 -- output i behind so many operations
 abbrev pub outputRecordRefusal : List ℕ → ℕ → ℕ → ℕ
-outputRecordRefusal b operations i = recordRefusal b (outputPlace headLength operations i) outputKind outputLength
+outputRecordRefusal b operations i = recordRefusal b (outputPlace (headLengthIn b) operations i) outputKind outputLength
 
 abbrev pub totalsRecordRefusal : List ℕ → ℕ → ℕ
 totalsRecordRefusal b place = recordRefusal b place totalsKind totalsLength
@@ -152,72 +154,95 @@ totalsRecordRefusal b place = recordRefusal b place totalsKind totalsLength
 -- ---- the head
 
 module _ (b : List ℕ) where
-  head-tests : oneTest 9 (headRecordRefusal b) (headInRange (headAt b)) ≡ headRefusal b
+  abbrev right-head : Bool
+  right-head = headInRange (headAt b) && widthInRange (word b 2) (headAt b .width)
+
+  head-tests : oneTest 9 (headRecordRefusal b) right-head ≡ headRefusal b
   unfolding headRefusal
   head-tests = refl
 
   pub head-stops : (headRecordRefusal b ≡ 0 → ⊥) → headRecordRefusal b ≡ headRefusal b
-  head-stops h = stays-one 9 (headRecordRefusal b) (headInRange (headAt b)) h ∙ head-tests
+  head-stops h = stays-one 9 (headRecordRefusal b) right-head h ∙ head-tests
+
+  -- under 4 bytes
+  pub no-kind : length b < 4 → 7 ≡ headRefusal b
+  unfolding recordRefusal
+  no-kind h =
+      let e = no-header b 0 (omega arith) in
+      let stops : 7 ≡ headRecordRefusal b =
+      e ∙ stays-one 8 (stepRefusal b 0) (eqb (word b 2) (headKindIn b) && eqb (word b 0) (headLengthIn b)) (λ z. omega (arith, e, z)) in
+      stops ∙ head-stops (λ z. omega (arith, stops, z))
 
   module _ (due : headRecordRefusal b ≡ 0) where
-    pub head-outside : headInRange (headAt b) ≡ false → 9 ≡ headRefusal b
-    head-outside h = one-fails 9 (headRecordRefusal b) (headInRange (headAt b)) due h ∙ head-tests
+    pub head-outside : (headInRange (headAt b) && widthInRange (word b 2) (headAt b .width)) ≡ false → 9 ≡ headRefusal b
+    head-outside h = one-fails 9 (headRecordRefusal b) right-head due h ∙ head-tests
 
-    pub head-accepted : headInRange (headAt b) ≡ true → 0 ≡ headRefusal b
-    head-accepted h = one-passes 9 (headRecordRefusal b) (headInRange (headAt b)) due h ∙ head-tests
+    pub head-accepted : (headInRange (headAt b) && widthInRange (word b 2) (headAt b .width)) ≡ true → 0 ≡ headRefusal b
+    head-accepted h = one-passes 9 (headRecordRefusal b) right-head due h ∙ head-tests
 
-  pub head-due : headRefusal b ≡ 0 → (headLength ≤ length b) × HeadLimits readLimits (headAt b)
+  head-passed : headRefusal b ≡ 0 → (headRecordRefusal b ≡ 0) × (right-head ≡ true)
+  head-passed e = one-passed 9 (headRecordRefusal b) right-head (omega arith) (head-tests ∙ e)
+
+  pub head-due : headRefusal b ≡ 0 → (headLengthIn b ≤ length b) × HeadRight b
   head-due e =
-      let p = one-passed 9 (headRecordRefusal b) (headInRange (headAt b)) (omega arith) (head-tests ∙ e) in
-      (omega (arith, record-there b 0 headKind headLength (omega arith) (p .0)), head-says (headAt b) .0 (p .1))
+      let p = head-passed e in
+      (omega (arith, record-there b 0 (headKindIn b) (headLengthIn b) (omega (arith, length-due b)) (p .0)), head-says b .0 (p .1))
+
+  -- an accepted head is the one for its width
+  pub head-length-due : headRefusal b ≡ 0 → headLengthIn b ≡ headLengthOf (headAt b .width)
+  head-length-due e = go (record-refused b 0 (headKindIn b) (headLengthIn b) (omega (arith, length-due b)))
+    where
+      go : RefusedBy (recordTests b 0 (headKindIn b) (headLengthIn b)) (headRecordRefusal b) 0 → headLengthIn b ≡ headLengthOf (headAt b .width)
+      go (inr f) = absurd (omega (arith, f .0, head-passed e .0))
+      go (inl a) = length-is-due b (headAt b .width) (head-expected b (expected-head b .0 (a .1 .1 .0)) (head-due e .1) .its-kind)
 
 -- ---- operation k behind the k operations before it
 
-module _ (b : List ℕ) (n k : ℕ) where
+module _ (b : List ℕ) (s n k : ℕ) where
   abbrev inRange : Bool
   inRange = operationInRange (n + k) (operationAt b k)
 
   abbrev right : Bool
-  right = widthRight (operationAt b k .width) (operationWidth n (firstOperations b k) (operationAt b k))
+  right = widthRight (operationAt b k .width) (operationWidth s n (firstOperations b k) (operationAt b k))
 
   operation-tests : twoTests (operationRecordRefusal b k) (operationInRange (n + k) (operationAt b k))
-      (widthRight (operationAt b k .width) (operationWidth n (firstOperations b k) (operationAt b k)))
-      ≡ operationRefusal b n (firstOperations b k)
+      (widthRight (operationAt b k .width) (operationWidth s n (firstOperations b k) (operationAt b k)))
+      ≡ operationRefusal b s n (firstOperations b k)
   unfolding operationRefusal
   operation-tests = ap (λ (j : ℕ). twoTests (operationRecordRefusal b j) (operationInRange (n + j) (operationAt b j))
-      (widthRight (operationAt b j .width) (operationWidth n (firstOperations b k) (operationAt b j)))) (sym (length-first (operationAt b) k))
+      (widthRight (operationAt b j .width) (operationWidth s n (firstOperations b k) (operationAt b j)))) (sym (length-first (operationAt b) k))
 
-  pub operation-stops : (operationRecordRefusal b k ≡ 0 → ⊥) → operationRecordRefusal b k ≡ operationRefusal b n (firstOperations b k)
+  pub operation-stops : (operationRecordRefusal b k ≡ 0 → ⊥) → operationRecordRefusal b k ≡ operationRefusal b s n (firstOperations b k)
   operation-stops h = stays-two (operationRecordRefusal b k) inRange right h ∙ operation-tests
 
   module _ (due : operationRecordRefusal b k ≡ 0) where
-    pub operation-outside : operationInRange (n + k) (operationAt b k) ≡ false → 9 ≡ operationRefusal b n (firstOperations b k)
+    pub operation-outside : operationInRange (n + k) (operationAt b k) ≡ false → 9 ≡ operationRefusal b s n (firstOperations b k)
     operation-outside h = two-outside (operationRecordRefusal b k) inRange right due h ∙ operation-tests
 
     module _ (inside : operationInRange (n + k) (operationAt b k) ≡ true) where
-      pub operation-wide : widthRight (operationAt b k .width) (operationWidth n (firstOperations b k) (operationAt b k)) ≡ false
-          → 10 ≡ operationRefusal b n (firstOperations b k)
+      pub operation-wide : widthRight (operationAt b k .width) (operationWidth s n (firstOperations b k) (operationAt b k)) ≡ false
+          → 10 ≡ operationRefusal b s n (firstOperations b k)
       operation-wide h = two-wide (operationRecordRefusal b k) inRange right due inside h ∙ operation-tests
 
-      pub operation-accepted : widthRight (operationAt b k .width) (operationWidth n (firstOperations b k) (operationAt b k)) ≡ true
-          → 0 ≡ operationRefusal b n (firstOperations b k)
+      pub operation-accepted : widthRight (operationAt b k .width) (operationWidth s n (firstOperations b k) (operationAt b k)) ≡ true
+          → 0 ≡ operationRefusal b s n (firstOperations b k)
       operation-accepted h = two-passes (operationRecordRefusal b k) inRange right due inside h ∙ operation-tests
 
-  pub operation-due : operationRefusal b n (firstOperations b k) ≡ 0
-      → (operationPlace headLength k + operationLength ≤ length b) × OperationLimits readLimits (n + k) (operationAt b k)
+  pub operation-due : operationRefusal b s n (firstOperations b k) ≡ 0
+      → (operationPlace (headLengthIn b) k + operationLength ≤ length b) × OperationLimits (readLimits s) (n + k) (operationAt b k)
   operation-due e =
       let p = two-passed (operationRecordRefusal b k) inRange right (operation-tests ∙ e) in (
-        record-there b (operationPlace headLength k) operationKind operationLength (omega arith) (p .0),
-        operation-says (n + k) (operationAt b k) .0 (p .1),
+        record-there b (operationPlace (headLengthIn b) k) operationKind operationLength (omega arith) (p .0),
+        operation-says s (n + k) (operationAt b k) .0 (p .1),
       )
 
 -- ---- output i of a netlist of the operations os
 
-module _ (b : List ℕ) (n k : ℕ) (os : List Operation) (count : length os ≡ k) (i : ℕ) where
+module _ (b : List ℕ) (s n k : ℕ) (os : List Operation) (count : length os ≡ k) (i : ℕ) where
   abbrev outputTested : ℕ → ℕ
-  outputTested j = twoTests (outputRecordRefusal b j i) (outputInRange (n + j) (outputAt b j i)) (widthRight (outputAt b j i .width) (outputWidth n os (outputAt b j i)))
+  outputTested j = twoTests (outputRecordRefusal b j i) (outputInRange (n + j) (outputAt b j i)) (widthRight (outputAt b j i .width) (outputWidth s n os (outputAt b j i)))
 
-  output-tests : outputTested k ≡ outputRefusal b n os i
+  output-tests : outputTested k ≡ outputRefusal b s n os i
   unfolding outputRefusal
   output-tests = ap outputTested (sym count)
 
@@ -225,28 +250,28 @@ module _ (b : List ℕ) (n k : ℕ) (os : List Operation) (count : length os ≡
   outputInside = outputInRange (n + k) (outputAt b k i)
 
   abbrev outputRight : Bool
-  outputRight = widthRight (outputAt b k i .width) (outputWidth n os (outputAt b k i))
+  outputRight = widthRight (outputAt b k i .width) (outputWidth s n os (outputAt b k i))
 
-  pub output-stops : (outputRecordRefusal b k i ≡ 0 → ⊥) → outputRecordRefusal b k i ≡ outputRefusal b n os i
+  pub output-stops : (outputRecordRefusal b k i ≡ 0 → ⊥) → outputRecordRefusal b k i ≡ outputRefusal b s n os i
   output-stops h = stays-two (outputRecordRefusal b k i) outputInside outputRight h ∙ output-tests
 
   module _ (due : outputRecordRefusal b k i ≡ 0) where
-    pub output-outside : outputInRange (n + k) (outputAt b k i) ≡ false → 9 ≡ outputRefusal b n os i
+    pub output-outside : outputInRange (n + k) (outputAt b k i) ≡ false → 9 ≡ outputRefusal b s n os i
     output-outside h = two-outside (outputRecordRefusal b k i) outputInside outputRight due h ∙ output-tests
 
     module _ (inside : outputInRange (n + k) (outputAt b k i) ≡ true) where
-      pub output-wide : widthRight (outputAt b k i .width) (outputWidth n os (outputAt b k i)) ≡ false → 10 ≡ outputRefusal b n os i
+      pub output-wide : widthRight (outputAt b k i .width) (outputWidth s n os (outputAt b k i)) ≡ false → 10 ≡ outputRefusal b s n os i
       output-wide h = two-wide (outputRecordRefusal b k i) outputInside outputRight due inside h ∙ output-tests
 
-      pub output-accepted : widthRight (outputAt b k i .width) (outputWidth n os (outputAt b k i)) ≡ true → 0 ≡ outputRefusal b n os i
+      pub output-accepted : widthRight (outputAt b k i .width) (outputWidth s n os (outputAt b k i)) ≡ true → 0 ≡ outputRefusal b s n os i
       output-accepted h = two-passes (outputRecordRefusal b k i) outputInside outputRight due inside h ∙ output-tests
 
-  pub output-due : outputRefusal b n os i ≡ 0
-      → (outputPlace headLength k i + outputLength ≤ length b) × OutputLimits readLimits (n + k) (outputAt b k i)
+  pub output-due : outputRefusal b s n os i ≡ 0
+      → (outputPlace (headLengthIn b) k i + outputLength ≤ length b) × OutputLimits (readLimits s) (n + k) (outputAt b k i)
   output-due e =
       let p = two-passed (outputRecordRefusal b k i) outputInside outputRight (output-tests ∙ e) in (
-        record-there b (outputPlace headLength k i) outputKind outputLength (omega arith) (p .0),
-        output-says (n + k) (outputAt b k i) .0 (p .1),
+        record-there b (outputPlace (headLengthIn b) k i) outputKind outputLength (omega arith) (p .0),
+        output-says s (n + k) (outputAt b k i) .0 (p .1),
       )
 
 -- ---- totals

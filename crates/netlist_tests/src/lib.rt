@@ -1,17 +1,19 @@
-// Document 01, "Why a record was declined": the tests of one record of a netlist, as `netlist_rules` has them. Rests on `layout_records`
+// Document 01, "Why a record was declined": the tests of one record of a netlist, as `netlist_rules` has them. Rests on `layout_head`
 // and `layout_step`.
-use layout_records::places::HEAD_KIND;
-use layout_records::places::HEAD_LENGTH;
-use layout_records::read::head_at;
+use layout_head::due_kind;
+use layout_head::due_length;
+use layout_head::head_at;
+use layout_records::little_endian::word_at;
+use layout_records::places::WIDTH_HEAD_KIND;
 use layout_rules::Head;
 use layout_rules::Operation;
 use layout_rules::Output;
 use limits::MAX_OPERATIONS;
 use limits::MAX_WIDTH;
+use limits::UNSTATED_WIDTH;
 use term::Term;
 ghost use mathlib.Core.Path.{_≡_};
-ghost use Prim.Native.Nat.{_<_};
-ghost use Rattle.netlist_rules.specs.Read.{recordRefusal, headInRange, headRefusal, operationInRange, outputInRange, widthRight};
+ghost use Rattle.netlist_rules.specs.Read.{recordRefusal, headInRange, widthInRange, headRefusal, operationInRange, outputInRange, widthRight};
 
 // The record due at a place: 7, or 8 where its kind or length is not the expected one, else 0.
 pub fn record_refusal(bytes: &[u8], place: usize, kind: u16, size: usize) -> u8
@@ -106,16 +108,39 @@ pub fn width_right(recorded: u8, width: u8) -> bool
     true
 }
 
+// The sample width of a head of a kind: 8 to 24, and not 16 where it is stated.
+fn width_in_range(kind: u16, width: u8) -> bool
+    ensures { λ r. ⌜ r ≡ widthInRange kind width ⌝ }
+{
+    if limits::sample_width_outside(width) {
+        return false;
+    }
+    if kind != WIDTH_HEAD_KIND {
+        return true;
+    }
+    if width == UNSTATED_WIDTH {
+        return false;
+    }
+    true
+}
+
+// Of a netlist's head: 7, 8 or 9, else 0. Under 4 bytes say no kind.
 pub fn head_refusal(bytes: &[u8]) -> u8
     ensures { λ r. ⌜ r ≡ headRefusal (now (bytes .entry)) ⌝ }
 {
-    let refusal = record_refusal(bytes, 0, HEAD_KIND, HEAD_LENGTH);
+    if bytes.len() < 4 {
+        return 7;
+    }
+    let refusal = record_refusal(bytes, 0, due_kind(bytes), due_length(bytes));
     if refusal != 0 {
         return refusal;
     }
     let head = head_at(bytes);
-    if head_in_range(head) {
-        return 0;
+    if !head_in_range(head) {
+        return 9;
     }
-    9
+    if !width_in_range(word_at(bytes, 2), head.width) {
+        return 9;
+    }
+    0
 }

@@ -1,4 +1,5 @@
-// A case of read and check: the length of a matrix record and the length of a netlist, then the bytes of both. Both answers are printed.
+// A case of read, check and sample_width: the length of a matrix record and the length of a netlist, then the bytes of both. All three
+// answers are printed.
 use libc::STDIN_FILENO;
 use libc::STDOUT_FILENO;
 
@@ -27,11 +28,21 @@ fn check_netlist(matrix: &[u8], netlist: &[u8]) {
     io::write_all(STDOUT_FILENO, b"\n");
 }
 
+fn sample_width_of(netlist: &[u8]) {
+    let answer = netlist_read::sample_width(netlist);
+    io::write_all(STDOUT_FILENO, b"width");
+    write_number(answer.refusal as u64);
+    write_number(answer.place as u64);
+    write_number(answer.width as u64);
+    io::write_all(STDOUT_FILENO, b"\n");
+}
+
 // The part that is lent takes the netlist.
 fn fill_netlist(matrix: &[u8], netlist: &mut [u8]) {
     io::read_full(STDIN_FILENO, netlist);
     read_netlist(netlist);
     check_netlist(matrix, netlist);
+    sample_width_of(netlist);
 }
 
 // The part that is lent takes the matrix record; the netlist follows.

@@ -1,5 +1,5 @@
-// A case of compile: the length of the lent buffer and the length of a matrix record, then the record's bytes. The answer and the buffer
-// afterwards, which held A5 before, are printed.
+// A case of compile: the length of the lent buffer and the length of a matrix record, then the sample width (1 byte) and the record's
+// bytes. The answer and the buffer afterwards, which held A5 before, are printed.
 use compile_rules::CompileAnswer;
 use libc::STDIN_FILENO;
 use libc::STDOUT_FILENO;
@@ -38,19 +38,21 @@ fn write_answer(answer: CompileAnswer) {
     io::write_all(STDOUT_FILENO, b"\n");
 }
 
-fn compile_into(matrix: &[u8], buffer: &mut [u8]) {
-    write_answer(compile::compile(matrix, buffer));
+fn compile_into(matrix: &[u8], width: u8, buffer: &mut [u8]) {
+    write_answer(compile::compile(matrix, width, buffer));
     write_bytes(buffer);
 }
 
 // The part that is lent takes the matrix record.
-fn fill_matrix(matrix: &mut [u8], room: u16) {
+fn fill_matrix(matrix: &mut [u8], width: u8, room: u16) {
     io::read_full(STDIN_FILENO, matrix);
     let mut buffer = old_bytes();
-    compile_into(matrix, &mut buffer[..room as usize]);
+    compile_into(matrix, width, &mut buffer[..room as usize]);
 }
 
 pub(crate) fn compile_case(room: u16, length: u16) {
+    let mut width = [0u8; 1];
+    io::read_full(STDIN_FILENO, &mut width);
     let mut matrix = io::large_buffer();
-    fill_matrix(&mut matrix[..length as usize], room);
+    fill_matrix(&mut matrix[..length as usize], width[0], room);
 }

@@ -1,7 +1,7 @@
 // A case of run: a netlist's length and the number of its runs, the netlist, then for each run the number of samples and the number of
-// outputs lent (1 byte each) and the samples (2 bytes each). For each run the answer and what the outputs hold afterwards are printed.
-use layout_matrix::signed_word;
-use layout_records::little_endian::word_at;
+// outputs lent (1 byte each) and the samples (4 bytes each). For each run the answer and what the outputs hold afterwards are printed.
+use layout_records::little_endian::double_word_at;
+use layout_records::little_endian::signed_double_word;
 use libc::STDIN_FILENO;
 use libc::STDOUT_FILENO;
 
@@ -25,7 +25,7 @@ fn print_outputs(outputs: &[i64]) {
     }
 }
 
-fn run_on(netlist: &[u8], samples: &[i16], outputs: &mut [i64]) {
+fn run_on(netlist: &[u8], samples: &[i32], outputs: &mut [i64]) {
     let answer = netlist_run::run(netlist, samples, outputs);
     io::print_decimal(STDOUT_FILENO, answer.refusal as u64);
     io::write_all(STDOUT_FILENO, b" ");
@@ -34,14 +34,14 @@ fn run_on(netlist: &[u8], samples: &[i16], outputs: &mut [i64]) {
     io::write_all(STDOUT_FILENO, b"\n");
 }
 
-fn next_sample() -> i16 {
-    let mut bytes = [0u8; 2];
+fn next_sample() -> i32 {
+    let mut bytes = [0u8; 4];
     io::read_full(STDIN_FILENO, &mut bytes);
-    signed_word(word_at(&bytes, 0))
+    signed_double_word(double_word_at(&bytes, 0))
 }
 
 // The part that is lent takes the samples.
-fn fill_samples(netlist: &[u8], samples: &mut [i16], outputs: u8) {
+fn fill_samples(netlist: &[u8], samples: &mut [i32], outputs: u8) {
     let count = samples.len();
     for i in 0..count {
         samples[i] = next_sample();
@@ -51,7 +51,7 @@ fn fill_samples(netlist: &[u8], samples: &mut [i16], outputs: u8) {
 }
 
 fn sized_run(netlist: &[u8], samples: u8, outputs: u8) {
-    let mut vector = [0i16; 256];
+    let mut vector = [0i32; 256];
     fill_samples(netlist, &mut vector[..samples as usize], outputs);
 }
 

@@ -1,21 +1,22 @@
-// Document 01's seven calls for hosts in C and Rust, over numbers and slices of numbers alone. Rests on `compile`,
+// Document 01's eight calls for hosts in C and Rust, over numbers and slices of numbers alone. Rests on `compile`,
 // `netlist_read`, `netlist_check`, `netlist_run`, `layout_step`, `generator` and `market`.
 // Each function returns the refusal's number, 0 where it accepts, and writes the other numbers of the answer through the references.
 // The names say raw: include/zaatarloft.h and rust/src/lib.rs have calls over them that give an answer as one struct.
 ghost use mathlib.Core.Path.{_≡_};
 ghost use lib.ListN.{length};
 ghost use Rattle.compile_rules.specs.Compile.{compileAnswer, compileBuffer};
-ghost use Rattle.netlist_rules.specs.Read.{readAnswer};
+ghost use Rattle.netlist_rules.specs.Read.{readAnswer, sampleWidthAnswer};
 ghost use Rattle.netlist_rules.specs.Check.{checkAnswer};
 ghost use Rattle.netlist_rules.specs.Run.{runAnswer, runOutputs};
 ghost use Rattle.layout_rules.specs.Step.{stepNumbers};
 ghost use Rattle.generator.specs.Generator.{generateAnswer, generateBuffer};
 ghost use Rattle.market_rules.specs.Market.{marketAnswer, marketBuffer};
 
-// Compile: from a matrix record, or no bytes, to the netlist, at the start of the lent buffer.
+// Compile: from a matrix record, or no bytes, to the netlist for samples of a width, at the start of the lent buffer.
 #[no_mangle]
 pub extern "C" fn zaatarloft_raw_compile(
     matrix: &[u8],
+    sample_width: u8,
     buffer: &mut [u8],
     place: &mut usize,
     written: &mut usize,
@@ -26,10 +27,10 @@ pub extern "C" fn zaatarloft_raw_compile(
     depth: &mut u16,
     negated: &mut u16,
 ) -> u8
-    ensures { λ r. ⌜ record { refusal = r; place = now (place .exit); written = now (written .exit); operations = now (operations .exit); plain = now (plain .exit); divisors = now (divisors .exit); replacements = now (replacements .exit); depth = now (depth .exit); negated = now (negated .exit) } ≡ compileAnswer (now (matrix .entry)) (length (now (buffer .entry))) ⌝ }
-    ensures { λ _. ⌜ now (buffer .exit) ≡ compileBuffer (now (matrix .entry)) (now (buffer .entry)) ⌝ }
+    ensures { λ r. ⌜ record { refusal = r; place = now (place .exit); written = now (written .exit); operations = now (operations .exit); plain = now (plain .exit); divisors = now (divisors .exit); replacements = now (replacements .exit); depth = now (depth .exit); negated = now (negated .exit) } ≡ compileAnswer «sample_width» (now (matrix .entry)) (length (now (buffer .entry))) ⌝ }
+    ensures { λ _. ⌜ now (buffer .exit) ≡ compileBuffer «sample_width» (now (matrix .entry)) (now (buffer .entry)) ⌝ }
 {
-    let compiled = compile::compile(matrix, buffer);
+    let compiled = compile::compile(matrix, sample_width, buffer);
     *place = compiled.place;
     *written = compiled.written;
     *operations = compiled.operations;
@@ -62,6 +63,21 @@ pub extern "C" fn zaatarloft_raw_read(
     reading.refusal
 }
 
+// Sample width: that of a netlist's head.
+#[no_mangle]
+pub extern "C" fn zaatarloft_raw_sample_width(
+    netlist: &[u8],
+    place: &mut usize,
+    width: &mut u8,
+) -> u8
+    ensures { λ r. ⌜ record { refusal = r; place = now (place .exit); width = now (width .exit) } ≡ sampleWidthAnswer (now (netlist .entry)) ⌝ }
+{
+    let answer = netlist_read::sample_width(netlist);
+    *place = answer.place;
+    *width = answer.width;
+    answer.refusal
+}
+
 // Check: whether a netlist computes a matrix.
 #[no_mangle]
 pub extern "C" fn zaatarloft_raw_check(matrix: &[u8], netlist: &[u8], place: &mut usize) -> u8
@@ -76,11 +92,11 @@ pub extern "C" fn zaatarloft_raw_check(matrix: &[u8], netlist: &[u8], place: &mu
 #[no_mangle]
 pub extern "C" fn zaatarloft_raw_run(
     netlist: &[u8],
-    samples: &[i16],
+    samples: &[i32],
     outputs: &mut [i64],
     place: &mut usize,
 ) -> u8
-    ensures { λ r. ⌜ record { refusal = r; place = now (place .exit) } ≡ runAnswer (now (netlist .entry)) (length (now (samples .entry))) (length (now (outputs .entry))) ⌝ }
+    ensures { λ r. ⌜ record { refusal = r; place = now (place .exit) } ≡ runAnswer (now (netlist .entry)) (now (samples .entry)) (length (now (outputs .entry))) ⌝ }
     ensures { λ _. ⌜ now (outputs .exit) ≡ runOutputs (now (netlist .entry)) (now (samples .entry)) (now (outputs .entry)) ⌝ }
 {
     let ran = netlist_run::run(netlist, samples, outputs);

@@ -6,8 +6,7 @@ use native.Mathlib.Omega.{arith}
 use lib.ListN.{length}
 use borrow.Author.Needs.{needs}
 use Rattle.limits.specs.Limits.{maxOperations}
-use Rattle.layout_rules.specs.Records.{headLength}
-use Rattle.layout_rules.specs.Places.{outputPlace}
+use Rattle.layout_rules.specs.Places.{outputPlace, headLengthIn}
 use Rattle.layout_rules.specs.Matrix.{rows, columns}
 use Rattle.layout_rules.proofs.LittleEndian.{AreBytes}
 use Rattle.layout_rules.proofs.MatrixRefusal.{AcceptedMatrix}
@@ -27,24 +26,28 @@ module _ (c : tie.After-compile) where
   abbrev bytes : List ℕ
   bytes = known .before .args .matrix .now
 
+  -- the sample width
+  abbrev s : ℕ
+  s = known .before .args .sample-width
+
   all : AreBytes bytes
   all i = omega (arith, known .shared-slice-known .given i)
 
-  refusal-text : (c .compile .result .refusal ≡ 0 → ⊥) → refusedLine (c .compile .result .refusal) (c .compile .result .place) ≡ bankText bytes
-  refusal-text = text-refused bytes all _ _ (c .compile .result) (c .before .before .no-netlist .ensures) (c .compile .ensures .0) (c .compile .ensures .1)
+  refusal-text : (c .compile .result .refusal ≡ 0 → ⊥) → refusedLine (c .compile .result .refusal) (c .compile .result .place) ≡ bankText s bytes
+  refusal-text = text-refused s bytes all _ _ (c .compile .result) (c .before .before .no-netlist .ensures) (c .compile .ensures .0) (c .compile .ensures .1)
 
   module _ (e : c .compile .result .refusal ≡ 0) where
-    netlist-text : (n m : ℕ) → n ≡ columns bytes → m ≡ rows bytes → listingOf (countsFrom n m (c .compile .result)) (c .compile .last .1 .0) ≡ bankText bytes
-    netlist-text = text-accepted bytes all _ _ (c .compile .result) (c .before .before .no-netlist .ensures) (c .compile .ensures .0) (c .compile .ensures .1) e
+    netlist-text : (n m : ℕ) → n ≡ columns bytes → m ≡ rows bytes → listingOf (countsFrom n m (c .compile .result)) (c .compile .last .1 .1 .0) ≡ bankText s bytes
+    netlist-text = text-accepted s bytes all _ _ (c .compile .result) (c .before .before .no-netlist .ensures) (c .compile .ensures .0) (c .compile .ensures .1) e
 
     within : AcceptedMatrix bytes
-    within = limits bytes all _ _ (c .compile .result) (c .before .before .no-netlist .ensures) (c .compile .ensures .0) (c .compile .ensures .1) e
+    within = limits s bytes all _ _ (c .compile .result) (c .before .before .no-netlist .ensures) (c .compile .ensures .0) (c .compile .ensures .1) e
 
-    enough : outputPlace headLength (c .compile .result .operations) (rows bytes) ≤ length (c .compile .last .1 .0)
-    enough = long bytes all _ _ (c .compile .result) (c .before .before .no-netlist .ensures) (c .compile .ensures .0) (c .compile .ensures .1) e
+    enough : outputPlace (headLengthIn (c .compile .last .1 .1 .0)) (c .compile .result .operations) (rows bytes) ≤ length (c .compile .last .1 .1 .0)
+    enough = long s bytes all _ _ (c .compile .result) (c .before .before .no-netlist .ensures) (c .compile .ensures .0) (c .compile .ensures .1) e
 
     operations : c .compile .result .operations ≤ maxOperations
-    operations = few bytes all _ _ (c .compile .result) (c .before .before .no-netlist .ensures) (c .compile .ensures .0) (c .compile .ensures .1) e
+    operations = few s bytes all _ _ (c .compile .result) (c .before .before .no-netlist .ensures) (c .compile .ensures .0) (c .compile .ensures .1) e
 
 no-netlist-requires : tie.Need-no-netlist-requires
 no-netlist-requires c κs = search needs
@@ -69,14 +72,14 @@ returns c =
 column-count-requires : tie.Need-column-count-requires
 column-count-requires c κs = search needs
 
-cast-t13 : tie.Need-cast-t13
-cast-t13 c = search needs
+cast-t14 : tie.Need-cast-t14
+cast-t14 c = search needs
 
 row-count-requires : tie.Need-row-count-requires
 row-count-requires c κs = search needs
 
-cast-t15 : tie.Need-cast-t15
-cast-t15 c = search needs
+cast-t16 : tie.Need-cast-t16
+cast-t16 c = search needs
 
 slice-aggregate-write-listing : tie.Need-slice-aggregate-write-listing
 slice-aggregate-write-listing c = search needs
@@ -114,9 +117,9 @@ write-text-spec =
     same-length
     returns
     column-count-requires
-    cast-t13
+    cast-t14
     row-count-requires
-    cast-t15
+    cast-t16
     slice-aggregate-write-listing
     write-listing-requires
     same-length-2

@@ -31,11 +31,11 @@ module _ (c : tie.After-compile) where
   refusal-text : (c .compile .result .refusal ≡ 0 → ⊥) → refusedLine (c .compile .result .refusal) (c .compile .result .place) ≡ outcomeText bytes
   refusal-text = outcome-refused bytes all _ _ (c .compile .result) (c .before .before .no-netlist .ensures) (c .compile .ensures .0) (c .compile .ensures .1)
 
-  part : c .compile .result .refusal ≡ 0 → c .compile .result .written ≤ length (c .compile .last .1 .0)
+  part : c .compile .result .refusal ≡ 0 → c .compile .result .written ≤ length (c .compile .last .1 .1 .0)
   part = netlist-part bytes all _ _ (c .compile .result) (c .before .before .no-netlist .ensures) (c .compile .ensures .0) (c .compile .ensures .1)
 
   module _ (accepts : c .compile .result .refusal ≡ 0) (check : CheckAnswer)
-      (checks : check ≡ checkAnswer bytes (take (c .compile .result .written) (c .compile .last .1 .0))) where
+      (checks : check ≡ checkAnswer bytes (take (c .compile .result .written) (c .compile .last .1 .1 .0))) where
     check-text : (check .refusal ≡ 0 → ⊥) → refusedLine (check .refusal) (check .place) ≡ outcomeText bytes
     check-text =
         check-refused bytes all _ _ (c .compile .result) (c .before .before .no-netlist .ensures) (c .compile .ensures .0) (c .compile .ensures .1) accepts check checks
@@ -70,7 +70,7 @@ array-share-prefix-netlist c = part (c .before .before .before) (c .if1 .left)
 slice-aggregate-check : tie.Need-slice-aggregate-check
 slice-aggregate-check c =
     let k = c .before .before .before .before in
-    sym (length-take-le (k .compile .result .written) (k .compile .last .1 .0) (part k (c .before .if1 .left)))
+    sym (length-take-le (k .compile .result .written) (k .compile .last .1 .1 .0) (part k (c .before .if1 .left)))
 
 check-requires : tie.Need-check-requires
 check-requires c κs = search needs

@@ -23,6 +23,10 @@ module _ (c : tie.After-compile) where
   abbrev bytes : List ℕ
   bytes = known .before .args .matrix .now
 
+  -- the sample width
+  abbrev s : ℕ
+  s = known .before .args .sample-width
+
   abbrev old : List ℕ
   old = known .before .args .output .now
 
@@ -33,24 +37,24 @@ module _ (c : tie.After-compile) where
   room = known .before .pre
 
   abbrev after : List ℕ
-  after = c .compile .last .1 .0
+  after = c .compile .last .1 .1 .0
 
   module _ (refused : c .compile .result .refusal ≡ 0 → ⊥) where
-    line : refusedLine (c .compile .result .refusal) (c .compile .result .place) ≡ compileOutput bytes
-    line = line-refused bytes all old after (c .compile .result) room (c .compile .ensures .0) (c .compile .ensures .1) refused
+    line : refusedLine (c .compile .result .refusal) (c .compile .result .place) ≡ compileOutput s bytes
+    line = line-refused s bytes all old after (c .compile .result) room (c .compile .ensures .0) (c .compile .ensures .1) refused
 
     unchanged : after ≡ old
-    unchanged = kept bytes all old after (c .compile .result) room (c .compile .ensures .0) (c .compile .ensures .1) refused
+    unchanged = kept s bytes all old after (c .compile .result) room (c .compile .ensures .0) (c .compile .ensures .1) refused
 
   module _ (accepted : c .compile .result .refusal ≡ 0) where
-    netlist : Wrote old after (c .compile .result .written) (compileOutput bytes)
-    netlist = netlist-written bytes all old after (c .compile .result) room (c .compile .ensures .0) (c .compile .ensures .1) accepted
+    netlist : Wrote old after (c .compile .result .written) (compileOutput s bytes)
+    netlist = netlist-written s bytes all old after (c .compile .result) room (c .compile .ensures .0) (c .compile .ensures .1) accepted
 
 compile-requires : tie.Need-compile-requires
 compile-requires c κs = search needs
 
 write-refused-requires : tie.Need-write-refused-requires
-write-refused-requires c κs = omega (arith, c .before .before .before .before .before .compile .kept .1 .0, room (c .before .before .before .before .before))
+write-refused-requires c κs = omega (arith, c .before .before .before .before .before .compile .kept .1 .1 .0, room (c .before .before .before .before .before))
 
 same-length : tie.Need-same-length
 same-length c = search needs
@@ -60,7 +64,7 @@ returns c =
     let k = c .before .before .before .before .before .before .before .before in
     let refused = c .before .before .before .before .if1 .taken in
     let w = c .before .before .write-refused .ensures in
-    subst (λ (l : List ℕ). Wrote l (c .before .before .write-refused .last .1 .1 .0) (c .before .before .write-refused .result) (compileOutput (bytes k)))
+    subst (λ (l : List ℕ). Wrote l (c .before .before .write-refused .last .1 .1 .0) (c .before .before .write-refused .result) (compileOutput (s k) (bytes k)))
     (unchanged k refused) (wrote-as (line k refused) (w .0))
 
 same-length-2 : tie.Need-same-length-2

@@ -15,8 +15,7 @@ use Rattle.board_rules.specs.Table.{HoldsDepths}
 use Rattle.board_rules.proofs.DepthLaws.{depth-none}
 use Rattle.board_rules.proofs.TableLaws.{depths-started}
 use Rattle.compile_lists.specs.Lists.{operationsList, noOperation}
-use Rattle.compile_rules.specs.Compiled.{compiledLimits}
-use Rattle.compile_write.specs.Tables.{Writable}
+use Rattle.compile_write.specs.Tables.{EarlierOperations}
 use Rattle.compile_write.proofs.WriteLaws.{earlier-depths, depths-next, depth-next}
 use Rattle.compile_write.proofs.depth_of.Statement.{statement}
 use Rattle.compile_write.proofs.depth_of.Tie as tie
@@ -62,34 +61,33 @@ module _ (L : tie.At-loop Inv-loop μ-loop) where
 
 -- what is asked of the operations
 module _ (c : tie.In-loop Inv-loop μ-loop) where
-  writable : Writable compiledLimits (s (c .before) .args .n) (os (c .before))
-  writable = rw (same (c .before)) (s (c .before) .pre)
+  earlier : EarlierOperations (s (c .before) .args .n) (os (c .before))
+  earlier = rw (same (c .before)) (s (c .before) .pre)
 
   inside : c .before .loop .k < length (os (c .before))
   inside = rw (same (c .before)) (omega arith)
 
   symbol-below : s (c .before) .args .n + c .before .loop .k < maxSymbols
-  symbol-below = omega (arith, inside, writable .few, writable .inputs)
+  symbol-below = omega (arith, inside, earlier .few, earlier .inputs)
 
   own : getD (list (c .before)) (c .before .loop .k) noOperation ≡ getD (os (c .before)) (c .before .loop .k) noOperation
   own = sym (getD-take (count (c .before)) (list (c .before)) (c .before .loop .k) noOperation (c .loop-test .taken))
 
 array-copy-out-operation-depth : tie.Need-array-copy-out-operation-depth Inv-loop μ-loop
-array-copy-out-operation-depth c = let g = c .before in omega (arith, inside g, writable g .few)
+array-copy-out-operation-depth c = let g = c .before in omega (arith, inside g, earlier g .few)
 
 mul-operation-depth : tie.Need-mul-operation-depth Inv-loop μ-loop
-mul-operation-depth c = let g = c .before in omega (arith, inside g, writable g .few)
+mul-operation-depth c = let g = c .before in omega (arith, inside g, earlier g .few)
 
 operation-depth-requires : tie.Need-operation-depth-requires Inv-loop μ-loop
 operation-depth-requires c κs =
     let g = c .before .before in
     let L = g .before in
-    let w = writable g in
+    let w = earlier g in
     let k = L .loop .k in
     let n = s L .args .n in
-    let o = w .operation k (inside g) in
     rw (own g) (
-      (omega (arith, symbol-below g, o .first-earlier), omega (arith, symbol-below g, o .second-earlier)),
+      (omega (arith, symbol-below g, w .first-earlier k (inside g)), omega (arith, symbol-below g, w .second-earlier k (inside g))),
       earlier-depths n (os L) w (L .loop .depths) k (inside g) (L .loop .inv .1),
     )
 
@@ -119,7 +117,7 @@ loop-again c =
     let n = s L .args .n in
     let k = L .loop .k in
     let table = L .loop .depths in
-    let w = writable g in
+    let w = earlier g in
     let e : d .operation-depth .result ≡ operationDepth table (getD (os L) k noOperation) = d .operation-depth .ensures ∙ ap (operationDepth table) (own g) in
     rw (add-one k) (
       omega (arith, g .loop-test .taken),

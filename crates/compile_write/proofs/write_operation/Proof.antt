@@ -6,7 +6,6 @@ use mathlib.Core.Path.{_≡_, sym, ap, subst, _∙_}
 use mathlib.Core.List.{List, _++_}
 use lib.IntN.{ℤ}
 use lib.ListN.{drop}
-use Rattle.limits.specs.Limits.{sampleWidth}
 use Rattle.layout_rules.specs.Records.{operationLength, operationBytes}
 use Rattle.board_rules.specs.Width.{width}
 use Rattle.board_rules.specs.Table.{row, operationRow, SmallRange}
@@ -24,12 +23,12 @@ row-is : (c : tie.After-append-form) → (let s = c .before .before .before in
 row-is c =
     let s = c .before .before .before in
     ap (λ (t : List ℤ). row t (s .args .n) (s .args .symbol)) (c .append-form .ensures)
-    ∙ appended-row (s .args .forms .now) (s .args .n) (s .args .o) (s .args .symbol) (s .pre .0 .1) (s .pre .0 .0) (s .pre .1 .1 .1 .0)
+    ∙ appended-row (s .args .forms .now) (s .args .n) (s .args .o) (s .args .symbol) (s .pre .0 .1 .1) (s .pre .0 .1 .0) (s .pre .1 .1 .1 .0)
 
 entry-width-requires : tie.Need-entry-width-requires
 entry-width-requires c κs =
     let s = c .before .before .before .before in
-    (s .pre .0, ((omega arith, omega arith), subst (SmallRange sampleWidth) (sym (row-is (c .before))) (s .pre .1 .1 .0 .1)))
+    (s .pre .0 .1, ((omega (arith, s .pre .0 .0 .least), omega (arith, s .pre .0 .0 .most)), subst (SmallRange (s .args .s)) (sym (row-is (c .before))) (s .pre .1 .1 .0 .1)))
 
 write-operation-requires : tie.Need-write-operation-requires
 write-operation-requires c κs = search needs
@@ -44,7 +43,7 @@ returns c =
     let s = a .before .before .before in (
       a .append-form .ensures,
       c .before .before .write-operation .ensures
-          ∙ ap (λ (w : ℕ). operationBytes (withWidth w (s .args .o)) ++ drop operationLength (s .args .buffer .now)) (g .entry-width .ensures ∙ ap (width sampleWidth) (row-is a)),
+          ∙ ap (λ (w : ℕ). operationBytes (withWidth w (s .args .o)) ++ drop operationLength (s .args .buffer .now)) (g .entry-width .ensures ∙ ap (width (s .args .s)) (row-is a)),
     )
 
 pub write-operation-spec : {M : Type 1} → statement M

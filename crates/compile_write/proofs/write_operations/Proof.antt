@@ -2,16 +2,16 @@
 use borrow.Author.Needs.{needs}
 use native.Mathlib.Omega.{arith}
 use Prim.Native.Nat.{ℕ, suc, _+_, _-_, _≤_, _<_}
-use mathlib.Core.Path.{_≡_, refl, sym, ap, subst, _∙_}
+use mathlib.Core.Path.{_≡_, refl, sym, ap, ap₂, subst, _∙_}
 use mathlib.Core.List.{List, flatMap}
 use native.Mathlib.Numerals.{add-one}
 use lib.IntN.{ℤ}
 use lib.ListN.{length, getD, take, length-take, length-drop}
 use lib.Seq.{take-all, getD-take}
-use Rattle.limits.specs.Limits.{sampleWidth, maxSymbols}
+use Rattle.limits.specs.Limits.{maxSymbols}
 use Rattle.elimination_rows.proofs.Filled.{front-same}
 use Rattle.layout_rules.specs.declared.Operation.{Operation}
-use Rattle.layout_rules.specs.Records.{headLength, operationLength, operationBytes}
+use Rattle.layout_rules.specs.Records.{operationLength, operationBytes}
 use Rattle.layout_rules.specs.Places.{operationPlace}
 use Rattle.layout_rules.specs.Written.{written}
 use Rattle.layout_rules.proofs.Lengths.{length-operation}
@@ -26,13 +26,13 @@ use Rattle.compile_write.proofs.write_operations.Statement.{statement}
 use Rattle.compile_write.proofs.write_operations.Tie as tie
 
 abbrev Inv-loop : tie.InvT-loop
-Inv-loop buffer₀ forms₀ n count list k₀ buffer forms k =
+Inv-loop buffer₀ forms₀ n head s count list k₀ buffer forms k =
     (k ≤ count) × (length buffer ≡ length buffer₀) × HoldsForms n (take k (take count list)) forms
-    × (written buffer (operationPlace headLength k) (flatMap operationBytes (recordedFrom n (take count list) k))
-    ≡ written buffer₀ headLength (flatMap operationBytes (withWidths sampleWidth n (take count list) n (take count list))))
+    × (written buffer (operationPlace head k) (flatMap operationBytes (recordedFrom s n (take count list) k))
+    ≡ written buffer₀ head (flatMap operationBytes (withWidths s n (take count list) n (take count list))))
 
 abbrev μ-loop : tie.MeasureT-loop
-μ-loop buffer₀ forms₀ n count list k₀ buffer forms k = count - k
+μ-loop buffer₀ forms₀ n head s count list k₀ buffer forms k = count - k
 
 count-requires : tie.Need-count-requires Inv-loop μ-loop
 count-requires c κs = search needs
@@ -45,8 +45,9 @@ loop-holds c =
     let s = c .before .before .before in
     let n = s .args .n in
     let os = take (c .before .count .result) (c .list .result) in
+    let start : operationPlace (s .args .head) 0 ≡ s .args .head = omega arith in
     let first : n + 0 ≡ n = omega arith in
-    (omega arith, refl, s .pre .0 .1, ap (λ (symbol : ℕ). written (s .args .buffer .now) headLength (flatMap operationBytes (withWidths sampleWidth n os symbol os))) first)
+    (omega arith, refl, s .pre .1 .0 .1, ap₂ (λ (place symbol : ℕ). written (s .args .buffer .now) place (flatMap operationBytes (withWidths (s .args .s) n os symbol os))) start first)
 
 -- the operations at the front of the array
 module _ (L : tie.At-loop Inv-loop μ-loop) where
@@ -67,14 +68,14 @@ module _ (L : tie.At-loop Inv-loop μ-loop) where
 
 -- what is asked of the operations, and that the next one's record has room
 module _ (c : tie.In-loop Inv-loop μ-loop) where
-  writable : Writable compiledLimits (s (c .before) .args .n) (os (c .before))
-  writable = rw (same (c .before)) (s (c .before) .pre .0 .0)
+  writable : Writable (compiledLimits (s (c .before) .args .s)) (s (c .before) .args .n) (os (c .before))
+  writable = rw (same (c .before)) (s (c .before) .pre .1 .0 .0)
 
   inside : c .before .loop .k < length (os (c .before))
   inside = rw (same (c .before)) (omega arith)
 
-  room : operationPlace headLength (length (os (c .before))) ≤ length (c .before .loop .buffer)
-  room = rw (same (c .before)) (omega (arith, s (c .before) .pre .1, c .before .loop .inv .1))
+  room : operationPlace (s (c .before) .args .head) (length (os (c .before))) ≤ length (c .before .loop .buffer)
+  room = rw (same (c .before)) (omega (arith, s (c .before) .pre .1 .1, c .before .loop .inv .1))
 
   own : getD (list (c .before)) (c .before .loop .k) noOperation ≡ getD (os (c .before)) (c .before .loop .k) noOperation
   own = sym (getD-take (count (c .before)) (list (c .before)) (c .before .loop .k) noOperation (c .loop-test .taken))
@@ -86,7 +87,7 @@ mul-o : tie.Need-mul-o Inv-loop μ-loop
 mul-o c = omega (arith, inside c, writable c .few)
 
 operation-place-requires : tie.Need-operation-place-requires Inv-loop μ-loop
-operation-place-requires c κs = omega (arith, inside (c .before), writable (c .before) .few)
+operation-place-requires c κs = let g = c .before in (s (g .before) .pre .0 .1, omega (arith, inside g, writable g .few))
 
 sub-write-operation : tie.Need-sub-write-operation Inv-loop μ-loop
 sub-write-operation c = omega (arith, inside (c .before .before), room (c .before .before))
@@ -109,13 +110,14 @@ write-operation-requires c κs =
     let w = writable g in
     let o = w .operation k (inside g) in
     let forms = L .loop .forms in
+    let bits = s L .pre .0 .0 in
     let symbol : n + k < maxSymbols = omega (arith, inside g, w .few, w .inputs) in
     rw (own g) (
-      (symbol, w .inputs),
+      (bits, (symbol, w .inputs)),
       (
         (o .first-earlier, o .second-earlier),
         (
-          (small-forms n (os L) w forms k (inside g) (L .loop .inv .2), small-range n (os L) w forms k (inside g) (L .loop .inv .2)),
+          (small-forms (s L .args .s) n (os L) bits w forms k (inside g) (L .loop .inv .2), small-range (s L .args .s) n (os L) bits w forms k (inside g) (L .loop .inv .2)),
           (L .loop .inv .2 .room, simp (length-take, length-drop) (omega (arith, inside g, room g, c .before .before .operation-place .ensures))),
         ),
       ),
@@ -140,11 +142,11 @@ loop-again c =
     let forms = L .loop .forms in
     let e : call .write-operation .last .1 .0 ≡ formAppended forms n (getD (os L) k noOperation) (n + k) =
     call .write-operation .ensures .0 ∙ ap (λ (q : Operation). formAppended forms n q (n + k)) (own g) in
-    let both = operation-written n (os L) w forms k (inside g) H (L .loop .buffer) (call .write-operation .last .0) (getD (list L) k noOperation) (p .operation-place .result) (own g) (p .operation-place .ensures) (room g) (call .write-operation .ensures .1) in
+    let both = operation-written (s L .args .s) n (os L) (s L .pre .0 .0) w forms k (inside g) H (s L .args .head) (L .loop .buffer) (call .write-operation .last .0) (getD (list L) k noOperation) (p .operation-place .result) (own g) (p .operation-place .ensures) (room g) (call .write-operation .ensures .1) in
     rw (add-one k) (
       omega (arith, g .loop-test .taken),
       both .0 ∙ L .loop .inv .1,
-      subst (λ (t : List ℤ). HoldsForms n (take (suc k) (os L)) t) (sym e) (holds-next n (os L) w forms k (inside g) H),
+      subst (λ (t : List ℤ). HoldsForms n (take (suc k) (os L)) t) (sym e) (holds-next (s L .args .s) n (os L) (s L .pre .0 .0) w forms k (inside g) H),
       both .1 ∙ L .loop .inv .3,
     )
 
@@ -158,7 +160,7 @@ returns c =
     let all : length (os L) ≤ L .loop .k = rw (same L) (omega arith) in
     rw (sym (same L)) (
       subst (λ (ps : List Operation). HoldsForms n ps (L .loop .forms)) (take-all (L .loop .k) (os L) all) (L .loop .inv .2),
-      records-none operationBytes operationLength length-operation (L .loop .buffer) (operationPlace headLength (L .loop .k)) (recordedFrom n (os L) (L .loop .k)) (recorded-end n (os L) (L .loop .k) all) ∙ L .loop .inv .3,
+      records-none operationBytes operationLength length-operation (L .loop .buffer) (operationPlace (s L .args .head) (L .loop .k)) (recordedFrom (s L .args .s) n (os L) (L .loop .k)) (recorded-end (s L .args .s) n (os L) (L .loop .k) all) ∙ L .loop .inv .3,
     )
 
 pub write-operations-spec : {M : Type 1} → statement M

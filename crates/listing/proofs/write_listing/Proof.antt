@@ -1,9 +1,13 @@
 -- `listing::write_listing` meets its contract. Assumes nothing.
 use native.Mathlib.Omega.{arith}
-use lib.ListN.{length-take, length-drop}
+use borrow.Author.Needs.{needs}
+use Rattle.layout_rules.proofs.InBytes.{length-due}
 use Rattle.text.proofs.Wrote.{wrote-more}
 use Rattle.listing.proofs.write_listing.Statement.{statement}
 use Rattle.listing.proofs.write_listing.Tie as tie
+
+due-length-requires : tie.Need-due-length-requires
+due-length-requires c κs = let s = c .before .before in omega (arith, s .pre .1 .0, length-due (s .args .netlist .now))
 
 write-counts-requires : tie.Need-write-counts-requires
 write-counts-requires c κs = omega arith
@@ -18,7 +22,7 @@ part-write-operations-end : tie.Need-part-write-operations-end
 part-write-operations-end c = omega arith
 
 write-operations-requires : tie.Need-write-operations-requires
-write-operations-requires c κs = simp (length-take, length-drop) (omega arith)
+write-operations-requires c κs = search needs
 
 add-outputs : tie.Need-add-outputs
 add-outputs c = omega arith
@@ -33,7 +37,7 @@ part-write-outputs-end : tie.Need-part-write-outputs-end
 part-write-outputs-end c = omega arith
 
 write-outputs-requires : tie.Need-write-outputs-requires
-write-outputs-requires c κs = simp (length-take, length-drop) (omega arith)
+write-outputs-requires c κs = search needs
 
 add-result : tie.Need-add-result
 add-result c = omega arith
@@ -54,6 +58,7 @@ pub write-listing-spec : {M : Type 1} → statement M
 write-listing-spec =
     tie.close
     (tie.spec
+    due-length-requires
     write-counts-requires
     sub-write-operations
     part-write-operations-start

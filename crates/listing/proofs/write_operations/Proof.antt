@@ -4,7 +4,8 @@ use mathlib.Core.Path.{_≡_, refl, ap, _∙_}
 use native.Mathlib.Omega.{arith}
 use lib.ListN.{length, length-take, length-drop}
 use Rattle.layout_rules.specs.Records.{operationLength, operationOf}
-use Rattle.layout_rules.specs.Places.{payloadOf, operationAt}
+use Rattle.layout_rules.specs.Places.{payloadOf, operationPlace, operationAt}
+use Rattle.layout_rules.proofs.InBytes.{length-due}
 use Rattle.listing_rules.specs.Listing.{operationLine}
 use Rattle.listing_rules.specs.Records.{longestOperationLine}
 use Rattle.listing_rules.proofs.Listed.{Listed, listed-start, listed-more, listed-end}
@@ -12,14 +13,14 @@ use Rattle.listing.proofs.write_operations.Statement.{statement}
 use Rattle.listing.proofs.write_operations.Tie as tie
 
 abbrev Inv-loop : tie.InvT-loop
-Inv-loop inputs operations netlist text₀ k₀ at₀ text k at =
+Inv-loop inputs operations head netlist text₀ k₀ at₀ text k at =
     Listed operationLine inputs (operationAt netlist) operations text₀ text at k
     × (k ≤ operations)
     × (at ≤ longestOperationLine * k)
     × (length text ≡ length text₀)
 
 abbrev μ-loop : tie.MeasureT-loop
-μ-loop inputs operations netlist text₀ k₀ at₀ text k at = operations - k
+μ-loop inputs operations head netlist text₀ k₀ at₀ text k at = operations - k
 
 loop-holds : tie.Need-loop-holds Inv-loop μ-loop
 loop-holds c = let a = c .before .before .args in (listed-start operationLine (a .inputs) (operationAt (a .netlist .now)) (a .operations) (a .text .now), omega arith, omega arith, refl)
@@ -28,7 +29,9 @@ cast-operation-place : tie.Need-cast-operation-place Inv-loop μ-loop
 cast-operation-place c = omega arith
 
 operation-place-requires : tie.Need-operation-place-requires Inv-loop μ-loop
-operation-place-requires c κs = (omega arith, omega arith)
+operation-place-requires c κs =
+    let s = c .before .before .before .before in
+    (omega (arith, s .pre .1 .0 .0, length-due (s .args .netlist .now)), omega arith)
 
 operation-at-requires : tie.Need-operation-at-requires Inv-loop μ-loop
 operation-at-requires c κs = omega arith
@@ -59,14 +62,15 @@ loop-less c = omega arith
 
 loop-again : tie.Need-loop-again Inv-loop μ-loop
 loop-again c =
-    let a = c .before .before .before .before .before .before .before .before .before .before .args in
+    let s = c .before .before .before .before .before .before .before .before .before .before in
+    let a = s .args in
     let l = c .before .before .before .before .before .before .before .loop in
     let h = c .before .before .before .before .before .before .loop-test .taken in
     let place = c .before .before .before .before .before .operation-place in
     let read = c .before .before .before .before .operation-at in
     let wrote = c .before .before .write-operation in (
       listed-more operationLine (a .inputs) (operationAt (a .netlist .now)) (a .operations) (a .text .now) (l .inv .0) h
-          (read .ensures ∙ ap (λ (p : ℕ). operationOf (payloadOf (a .netlist .now) p operationLength)) (place .ensures))
+          (read .ensures ∙ ap (λ (p : ℕ). operationOf (payloadOf (a .netlist .now) p operationLength)) (place .ensures ∙ ap (λ (h : ℕ). operationPlace h (l .k)) (s .pre .1 .0 .0)))
           refl
           (wrote .ensures .0),
       omega arith,

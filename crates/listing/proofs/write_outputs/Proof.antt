@@ -4,7 +4,8 @@ use mathlib.Core.Path.{_≡_, refl, ap, _∙_}
 use native.Mathlib.Omega.{arith}
 use lib.ListN.{length, length-take, length-drop}
 use Rattle.layout_rules.specs.Records.{outputLength, outputOf}
-use Rattle.layout_rules.specs.Places.{payloadOf, outputAt}
+use Rattle.layout_rules.specs.Places.{payloadOf, outputPlace, outputAt}
+use Rattle.layout_rules.proofs.InBytes.{length-due}
 use Rattle.listing_rules.specs.Listing.{outputLine}
 use Rattle.listing_rules.specs.Records.{longestOutputLine}
 use Rattle.listing_rules.proofs.Listed.{Listed, listed-start, listed-more, listed-end}
@@ -12,14 +13,14 @@ use Rattle.listing.proofs.write_outputs.Statement.{statement}
 use Rattle.listing.proofs.write_outputs.Tie as tie
 
 abbrev Inv-loop : tie.InvT-loop
-Inv-loop operations outputs netlist text₀ row₀ at₀ text row at =
+Inv-loop operations outputs head netlist text₀ row₀ at₀ text row at =
     Listed outputLine 0 (outputAt netlist operations) outputs text₀ text at row
     × (row ≤ outputs)
     × (at ≤ longestOutputLine * row)
     × (length text ≡ length text₀)
 
 abbrev μ-loop : tie.MeasureT-loop
-μ-loop operations outputs netlist text₀ row₀ at₀ text row at = outputs - row
+μ-loop operations outputs head netlist text₀ row₀ at₀ text row at = outputs - row
 
 loop-holds : tie.Need-loop-holds Inv-loop μ-loop
 loop-holds c = let a = c .before .before .args in (listed-start outputLine 0 (outputAt (a .netlist .now) (a .operations)) (a .outputs) (a .text .now), omega arith, omega arith, refl)
@@ -28,7 +29,9 @@ cast-output-place : tie.Need-cast-output-place Inv-loop μ-loop
 cast-output-place c = omega arith
 
 output-place-requires : tie.Need-output-place-requires Inv-loop μ-loop
-output-place-requires c κs = (omega arith, omega arith, omega arith)
+output-place-requires c κs =
+    let s = c .before .before .before .before in
+    (omega (arith, s .pre .0 .0, length-due (s .args .netlist .now)), omega arith, omega arith)
 
 output-at-requires : tie.Need-output-at-requires Inv-loop μ-loop
 output-at-requires c κs = omega arith
@@ -56,7 +59,8 @@ loop-less c = omega arith
 
 loop-again : tie.Need-loop-again Inv-loop μ-loop
 loop-again c =
-    let a = c .before .before .before .before .before .before .before .before .before .before .args in
+    let s = c .before .before .before .before .before .before .before .before .before .before in
+    let a = s .args in
     let l = c .before .before .before .before .before .before .before .loop in
     let h = c .before .before .before .before .before .before .loop-test .taken in
     let place = c .before .before .before .before .before .output-place in
@@ -64,7 +68,7 @@ loop-again c =
     let wrote = c .before .before .write-output in
     let numbered : l .row ≡ 0 + l .row = omega arith in (
       listed-more outputLine 0 (outputAt (a .netlist .now) (a .operations)) (a .outputs) (a .text .now) (l .inv .0) h
-          (read .ensures ∙ ap (λ (p : ℕ). outputOf (payloadOf (a .netlist .now) p outputLength)) (place .ensures))
+          (read .ensures ∙ ap (λ (p : ℕ). outputOf (payloadOf (a .netlist .now) p outputLength)) (place .ensures ∙ ap (λ (h : ℕ). outputPlace h (a .operations) (l .row)) (s .pre .0 .0)))
           numbered
           (wrote .ensures .0),
       omega arith,

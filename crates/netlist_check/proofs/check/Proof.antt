@@ -8,7 +8,7 @@ use Rattle.netlist_rules.specs.declared.ReadAnswer.{ReadAnswer}
 use Rattle.netlist_rules.specs.Read.{accepted, readNetlist, readAccepted}
 use Rattle.netlist_rules.specs.Check.{checked}
 use Rattle.netlist_read.specs.Tables.{NetlistHeld}
-use Rattle.netlist_read.proofs.NetlistLaws.{answer-accepted}
+use Rattle.netlist_read.proofs.NetlistLaws.{answer-accepted, head-there}
 use Rattle.netlist_check.proofs.CheckLaws.{matrix-declines, netlist-declines, rows-differ, columns-differ, sizes-agree}
 use borrow.Author.Needs.{needs}
 use Rattle.netlist_check.proofs.check.Statement.{statement}
@@ -110,9 +110,12 @@ module _ (c : tie.Else4) where
   same-columns : columns (m (d (e y))) ≡ d (e y) .netlist .result .n
   same-columns = sym (c .before .before .column-count .ensures) ∙ c .if4 .left
 
+due-length-requires : tie.Need-due-length-requires
+due-length-requires c κs = let E = e (y c) in head-there (b (d E)) (held E .read) .1
+
 rows-answer-requires : tie.Need-rows-answer-requires
-rows-answer-requires c κs = let z = c .before .before .before .before in let E = e (y z) in (
-  held E,
+rows-answer-requires c κs = let f = c .before .before .before .before in let z = f .before in let E = e (y z) in (
+  (held E, f .due-length .ensures),
   (
     due (d E),
     record { rows-read = m-is E; columns-read = n-is E; operations-read = operations-is E; same-rows = same-rows (y z); same-columns = same-columns z },
@@ -120,7 +123,7 @@ rows-answer-requires c κs = let z = c .before .before .before .before in let E 
 )
 
 returns-5 : tie.Need-returns-5
-returns-5 c = let z = c .before .before .before .before .before in let E = e (y z) in let D = d E in
+returns-5 c = let z = c .before .before .before .before .before .before in let E = e (y z) in let D = d E in
     c .rows-answer .ensures ∙ sizes-agree (m D) (b D) (due D) (netlistIn (b D)) (reads E) (same-rows (y z) ∙ m-is E) (same-columns z ∙ n-is E)
 
 pub check-spec : {M : Type 1} → statement M
@@ -137,6 +140,7 @@ check-spec =
     returns-3
     column-count-requires
     returns-4
+    due-length-requires
     cast-rows-answer
     cast-rows-answer-2
     cast-rows-answer-3

@@ -1,5 +1,5 @@
 -- `netlist_check::rows_answer` meets its contract. What is left to compare is the rows from i on. Assumes nothing.
-use mathlib.Core.Path.{_≡_, refl, sym, ap, _∙_, subst}
+use mathlib.Core.Path.{_≡_, refl, sym, ap, ap₂, _∙_, subst}
 use Prim.Native.Nat.{ℕ, _+_, _*_, _-_, _≤_, _<_}
 use mathlib.Core.List.{List, []}
 use native.Mathlib.Omega.{arith}
@@ -11,11 +11,12 @@ use borrow.Author.Tests.{not-true, not-false}
 use Rattle.limits.specs.Limits.{maxRows, maxColumns, maxOperations, maxSymbols}
 use Rattle.layout_rules.specs.declared.Output.{Output}
 use Rattle.layout_rules.specs.Matrix.{rows, columns, matrix, coefficientsFrom}
-use Rattle.layout_rules.specs.Records.{headLength, outputLength, outputOf}
-use Rattle.layout_rules.specs.Places.{outputPlace, payloadOf, headAt, outputAt, operationsIn, outputsIn}
+use Rattle.layout_rules.specs.Records.{outputLength, outputOf}
+use Rattle.layout_rules.specs.Places.{outputPlace, payloadOf, headLengthIn, headAt, outputAt, operationsIn, outputsIn}
 use Rattle.layout_rules.proofs.MatrixRefusal.{accepted-matrix}
 use Rattle.layout_rules.proofs.MatrixRows.{matrix-length}
 use Rattle.layout_rules.proofs.FirstRecords.{length-first}
+use Rattle.layout_rules.proofs.InBytes.{length-due}
 use Rattle.board_rules.specs.Machine.{outputForm}
 use Rattle.board_rules.specs.Table.{outputRow}
 use Rattle.board_rules.specs.Netlist.{OutputOperand}
@@ -29,11 +30,11 @@ use Rattle.netlist_check.proofs.rows_answer.Statement.{statement}
 use Rattle.netlist_check.proofs.rows_answer.Tie as tie
 
 abbrev Inv-loop : tie.InvT-loop
-Inv-loop mx netlist m n operations forms i₀ i =
+Inv-loop mx netlist start m n operations forms i₀ i =
     (i ≤ m) × (rowsAnswer (headAt netlist .n) (operationsIn netlist) i (drop i (outputsIn netlist)) (drop i (matrix mx)) ≡ rowsMatched mx netlist)
 
 abbrev μ-loop : tie.MeasureT-loop
-μ-loop mx netlist m n operations forms i₀ i = m - i
+μ-loop mx netlist start m n operations forms i₀ i = m - i
 
 loop-holds : tie.Need-loop-holds Inv-loop μ-loop
 loop-holds c = (omega arith, refl)
@@ -64,7 +65,10 @@ module _ (c : tie.In-loop Inv-loop μ-loop) where
   o = outputAt b (headAt b .operations) i
 
   H : NetlistHeld b forms
-  H = s .pre .0
+  H = s .pre .0 .0
+
+  start-is : s .args .start ≡ headLengthIn b
+  start-is = s .pre .0 .1
 
   sizes : SameSizes mx (headAt b) (s .args .m) n (s .args .operations)
   sizes = s .pre .1 .1
@@ -85,17 +89,17 @@ module _ (c : tie.In-loop Inv-loop μ-loop) where
   index : i * n ≤ maxRows * maxColumns
   index = mul-le-mul (few .1) (few .2)
 
-  limits : OutputOperand readLimits (headAt b .n + headAt b .operations) o
+  limits : OutputOperand (readLimits (headAt b .width)) (headAt b .n + headAt b .operations) o
   limits = output-there b (H .read) i inside .1 .operand
 
   below : o .symbol < maxSymbols
   below = let h = head-limits b (H .read) in omega (arith, limits .symbol, h .limits .columns-most, h .few)
 
 output-place-requires : tie.Need-output-place-requires Inv-loop μ-loop
-output-place-requires c κs = (omega arith, omega (arith, few c), omega (arith, few c))
+output-place-requires c κs = (omega (arith, start-is c, length-due (b c)), omega (arith, few c), omega (arith, few c))
 
-placed : (c : tie.After-output-place Inv-loop μ-loop) → c .output-place .result ≡ outputPlace headLength (headAt (b (c .before)) .operations) (i (c .before))
-placed c = c .output-place .ensures ∙ ap (λ (k : ℕ). outputPlace headLength k (i (c .before))) (sizes (c .before) .operations-read)
+placed : (c : tie.After-output-place Inv-loop μ-loop) → c .output-place .result ≡ outputPlace (headLengthIn (b (c .before))) (headAt (b (c .before)) .operations) (i (c .before))
+placed c = c .output-place .ensures ∙ ap₂ (λ (h k : ℕ). outputPlace h k (i (c .before))) (start-is (c .before)) (sizes (c .before) .operations-read)
 
 output-at-requires : tie.Need-output-at-requires Inv-loop μ-loop
 output-at-requires c κs = let d = c .before in omega (arith, placed c, output-there (b d) (H d .read) (i d) (inside d) .0)

@@ -4,6 +4,7 @@ use Prim.Native.Nat.{ℕ}
 use mathlib.Core.List.{List}
 use native.Mathlib.Omega.{arith}
 use Rattle.layout_rules.specs.declared.Head.{Head}
+use Rattle.layout_rules.proofs.InBytes.{length-due}
 use Rattle.layout_rules.specs.Places.{headAt, totalsAt, operationsIn, totalsPlaceIn, netlistIn}
 use Rattle.netlist_rules.specs.declared.ReadAnswer.{ReadAnswer}
 use Rattle.netlist_rules.specs.Read.{headRefusal, readNetlist}
@@ -32,6 +33,9 @@ due c = sym (c .before .head-refusal .ensures) ∙ c .if1 .left
 head-at-requires : tie.Need-head-at-requires
 head-at-requires c κs = head-due (c .before .before .before .args .bytes .now) (due c) .0
 
+due-length-requires : tie.Need-due-length-requires
+due-length-requires c κs = let b = c .before .before .before .before .args .bytes .now in omega (arith, length-due b, head-due b (due (c .before)) .0)
+
 records-requires : tie.Need-records-requires
 records-requires c κs = search needs
 
@@ -51,26 +55,31 @@ cast-output-place-2 : tie.Need-cast-output-place-2
 cast-output-place-2 c = search needs
 
 output-place-requires : tie.Need-output-place-requires
-output-place-requires c κs = search needs
+output-place-requires c κs =
+    let f = c .before .before .before .before .before .before .before in
+    (omega (arith, f .due-length .ensures, length-due (f .before .before .before .before .before .args .bytes .now)), omega arith, omega arith)
 
 module _ (c : tie.Else2) where
   abbrev r : tie.After-records
   r = c .before .before
 
+  abbrev f : tie.After-due-length
+  f = r .before .before .before
+
   abbrev a : tie.After-head-at
-  a = r .before .before .before
+  a = f .before
 
   abbrev b : List ℕ
   b = a .before .before .before .before .args .bytes .now
 
-  held : NetlistHeld b (r .records .last .1 .1 .0)
+  held : NetlistHeld b (r .records .last .1 .1 .1 .0)
   held = r .records .ensures .held (c .if2 .left)
 
   abbrev head : Head
   head = a .head-at .result
 
 there : (c : tie.After-output-place) → c .output-place .result ≡ totalsPlaceIn (b (c .before .before .before))
-there c = let x = c .before .before .before in c .output-place .ensures ∙ place-is (b x) (head x) (a x .head-at .ensures)
+there c = let x = c .before .before .before in c .output-place .ensures ∙ place-is (b x) _ (head x) (f x .due-length .ensures) (a x .head-at .ensures)
 
 totals-at-requires : tie.Need-totals-at-requires
 totals-at-requires c κs = let x = c .before .before .before in
@@ -91,6 +100,7 @@ netlist-spec =
     refused-requires
     returns
     head-at-requires
+    due-length-requires
     records-requires
     refused-requires-2
     returns-2

@@ -7,10 +7,12 @@ use native.Mathlib.Omega.{arith}
 use lib.IntN.{ℤ}
 use lib.ListN.{set}
 use borrow.Author.Tests.{not-true, not-false}
-use Rattle.limits.specs.Limits.{maxColumns, sampleWidth, maxOperations}
+use Rattle.limits.specs.Limits.{maxColumns, maxOperations}
+use Rattle.limits.specs.Size.{SampleWidth}
 use Rattle.layout_rules.specs.declared.Operation.{Operation}
 use Rattle.layout_rules.specs.Records.{operationKind, operationLength, operationOf}
-use Rattle.layout_rules.specs.Places.{payloadOf, operationAt, firstOperations}
+use Rattle.layout_rules.specs.Places.{operationPlace, payloadOf, headLengthIn, operationAt, firstOperations}
+use Rattle.layout_rules.proofs.InBytes.{length-due}
 use Rattle.board_rules.specs.Machine.{operationDepth}
 use Rattle.board_rules.specs.Width.{width}
 use Rattle.board_rules.specs.Table.{row, formAppended, SmallRange}
@@ -26,7 +28,7 @@ use Rattle.netlist_read.proofs.next_operation.Statement.{statement}
 use Rattle.netlist_read.proofs.next_operation.Tie as tie
 
 operation-place-requires : tie.Need-operation-place-requires
-operation-place-requires c κs = search needs
+operation-place-requires c κs = let s = c .before in (omega (arith, s .pre .1 .1 .0, length-due (s .args .bytes .now)), omega arith)
 
 record-refusal-requires : tie.Need-record-refusal-requires
 record-refusal-requires c κs = search needs
@@ -39,18 +41,24 @@ module _ (c : tie.After-record-refusal) where
   abbrev b : List ℕ
   b = s .args .bytes .now
 
+  abbrev bits : ℕ
+  bits = s .args .s
+
   abbrev n : ℕ
   n = s .args .n
 
   abbrev k : ℕ
   k = s .args .k
 
+  place-is : c .before .operation-place .result ≡ operationPlace (headLengthIn b) k
+  place-is = c .before .operation-place .ensures ∙ ap (λ (start : ℕ). operationPlace start k) (s .pre .1 .1 .0)
+
   refusal-is : c .record-refusal .result ≡ operationRecordRefusal b k
-  refusal-is = c .record-refusal .ensures ∙ ap (λ (p : ℕ). recordRefusal b p operationKind operationLength) (c .before .operation-place .ensures)
+  refusal-is = c .record-refusal .ensures ∙ ap (λ (p : ℕ). recordRefusal b p operationKind operationLength) place-is
 
 returns : tie.Need-returns
 returns c = let r = c .before in record {
-  number = refusal-is r ∙ operation-stops (b r) (n r) (k r) (λ z. c .if1 .taken (refusal-is r ∙ z));
+  number = refusal-is r ∙ operation-stops (b r) (bits r) (n r) (k r) (λ z. c .if1 .taken (refusal-is r ∙ z));
   forms-held = λ z. absurd (c .if1 .taken z);
   depths-held = λ z. absurd (c .if1 .taken z);
 }
@@ -73,14 +81,14 @@ module _ (c : tie.After-operation-in-range) where
   due = sym (refusal-is r) ∙ c .before .before .if1 .left
 
   read : c .before .operation-at .result ≡ operationAt (b r) (k r)
-  read = c .before .operation-at .ensures ∙ ap (λ (p : ℕ). operationOf (payloadOf (b r) p operationLength)) (r .before .operation-place .ensures)
+  read = c .before .operation-at .ensures ∙ ap (λ (p : ℕ). operationOf (payloadOf (b r) p operationLength)) (place-is r)
 
   tested : operationInRange (n r + k r) (operationAt (b r) (k r)) ≡ c .operation-in-range .result
   tested = sym (c .operation-in-range .ensures ∙ ap (operationInRange (n r + k r)) read)
 
 returns-2 : tie.Need-returns-2
 returns-2 c = let d = c .before in record {
-  number = operation-outside (b (r d)) (n (r d)) (k (r d)) (due d) (tested d ∙ not-true _ (c .if2 .taken));
+  number = operation-outside (b (r d)) (bits (r d)) (n (r d)) (k (r d)) (due d) (tested d ∙ not-true _ (c .if2 .taken));
   forms-held = λ z. absurd (omega arith);
   depths-held = λ z. absurd (omega arith);
 }
@@ -99,8 +107,8 @@ module _ (c : tie.Else2) where
   inside : operationInRange (n q + k q) (operationAt (b q) (k q)) ≡ true
   inside = tested d ∙ not-false _ (c .if2 .left)
 
-  limits : OperationLimits readLimits (n q + k q) (operationAt (b q) (k q))
-  limits = operation-says (n q + k q) (operationAt (b q) (k q)) .0 inside
+  limits : OperationLimits (readLimits (bits q)) (n q + k q) (operationAt (b q) (k q))
+  limits = operation-says (bits q) (n q + k q) (operationAt (b q) (k q)) .0 inside
 
   least : n q ≤ maxColumns
   least = s q .pre .0 .0
@@ -108,15 +116,18 @@ module _ (c : tie.Else2) where
   few : k q < maxOperations
   few = s q .pre .0 .1
 
-  forms-held : FormsHeld (b q) (n q) (k q) forms
-  forms-held = s q .pre .1 .0
+  forms-held : FormsHeld (b q) (bits q) (n q) (k q) forms
+  forms-held = s q .pre .1 .0 .0
 
   depths-held : DepthsHeld (b q) (n q) (k q) (s q .args .depths .now)
-  depths-held = s q .pre .1 .1
+  depths-held = s q .pre .1 .0 .1
+
+  sampled : SampleWidth (bits q)
+  sampled = s q .pre .1 .1 .1
 
 append-form-requires : tie.Need-append-form-requires
 append-form-requires c κs = let e = c .before in
-    rw (read (d e)) ((omega (arith, least e, few e), least e), ((limits e .first-earlier, limits e .second-earlier), operands-small (b (q e)) (n (q e)) (k (q e)) (forms e) (forms-held e) (operationAt (b (q e)) (k (q e))) (limits e)))
+    rw (read (d e)) ((omega (arith, least e, few e), least e), ((limits e .first-earlier, limits e .second-earlier), operands-small (b (q e)) (bits (q e)) (n (q e)) (k (q e)) (sampled e) (forms e) (forms-held e) (operationAt (b (q e)) (k (q e))) (limits e)))
 
 -- the table with the operation's row
 module _ (c : tie.After-append-form) where
@@ -132,12 +143,12 @@ module _ (c : tie.After-append-form) where
   appended : c .append-form .last .0 ≡ formAppended (forms e) (n (q e)) o symbol
   appended = c .append-form .ensures ∙ ap (λ (x : Operation). formAppended (forms e) (n (q e)) x symbol) (read (d e))
 
-  range : SmallRange sampleWidth (row (c .append-form .last .0) (n (q e)) symbol)
-  range = subst (λ (t : List ℤ). SmallRange sampleWidth (row t (n (q e)) symbol)) (sym appended)
-      (appended-range (b (q e)) (n (q e)) (k (q e)) (forms e) (forms-held e) o (limits e) (least e) (few e))
+  range : SmallRange (bits (q e)) (row (c .append-form .last .0) (n (q e)) symbol)
+  range = subst (λ (t : List ℤ). SmallRange (bits (q e)) (row t (n (q e)) symbol)) (sym appended)
+      (appended-range (b (q e)) (bits (q e)) (n (q e)) (k (q e)) (sampled e) (forms e) (forms-held e) o (limits e) (least e) (few e))
 
 entry-width-requires : tie.Need-entry-width-requires
-entry-width-requires c κs = let t = c .before in ((omega (arith, least (e t), few (e t)), least (e t)), ((omega arith, omega arith), range t))
+entry-width-requires c κs = let t = c .before in ((omega (arith, least (e t), few (e t)), least (e t)), ((omega (arith, sampled (e t) .least), omega (arith, sampled (e t) .most)), range t))
 
 width-right-requires : tie.Need-width-right-requires
 width-right-requires c κs = search needs
@@ -146,16 +157,16 @@ module _ (c : tie.After-width-right) where
   abbrev t : tie.After-append-form
   t = c .before .before .before
 
-  wide : c .before .entry-width .result ≡ operationWidth (n (q (e t))) (firstOperations (b (q (e t))) (k (q (e t)))) (o t)
-  wide = c .before .entry-width .ensures ∙ ap (λ (x : List ℤ). width sampleWidth (row x (n (q (e t))) (symbol t))) (appended t)
-      ∙ appended-width (b (q (e t))) (n (q (e t))) (k (q (e t))) (forms (e t)) (forms-held (e t)) (o t) (limits (e t)) (least (e t)) (few (e t))
+  wide : c .before .entry-width .result ≡ operationWidth (bits (q (e t))) (n (q (e t))) (firstOperations (b (q (e t))) (k (q (e t)))) (o t)
+  wide = c .before .entry-width .ensures ∙ ap (λ (x : List ℤ). width (bits (q (e t))) (row x (n (q (e t))) (symbol t))) (appended t)
+      ∙ appended-width (b (q (e t))) (bits (q (e t))) (n (q (e t))) (k (q (e t))) (sampled (e t)) (forms (e t)) (forms-held (e t)) (o t) (limits (e t)) (least (e t)) (few (e t))
 
-  compared : widthRight (o t .width) (operationWidth (n (q (e t))) (firstOperations (b (q (e t))) (k (q (e t)))) (o t)) ≡ c .width-right .result
+  compared : widthRight (o t .width) (operationWidth (bits (q (e t))) (n (q (e t))) (firstOperations (b (q (e t))) (k (q (e t)))) (o t)) ≡ c .width-right .result
   compared = sym (c .width-right .ensures ∙ ap₂ widthRight (ap (λ (x : Operation). x .width) (read (d (e t)))) wide)
 
 returns-3 : tie.Need-returns-3
 returns-3 c = let w = c .before in let x = e (t w) in record {
-  number = operation-wide (b (q x)) (n (q x)) (k (q x)) (due (d x)) (inside x) (compared w ∙ not-true _ (c .if3 .taken));
+  number = operation-wide (b (q x)) (bits (q x)) (n (q x)) (k (q x)) (due (d x)) (inside x) (compared w ∙ not-true _ (c .if3 .taken));
   forms-held = λ z. absurd (omega arith);
   depths-held = λ z. absurd (omega arith);
 }
@@ -177,7 +188,7 @@ module _ (c : tie.After-operation-depth) where
   abbrev x : tie.Else2
   x = e (t w)
 
-  right : widthRight (o (t w) .width) (operationWidth (n (q x)) (firstOperations (b (q x)) (k (q x))) (o (t w))) ≡ true
+  right : widthRight (o (t w) .width) (operationWidth (bits (q x)) (n (q x)) (firstOperations (b (q x)) (k (q x))) (o (t w))) ≡ true
   right = compared w ∙ not-false _ (c .before .before .if3 .left)
 
   depth-is : c .operation-depth .result ≡ operationDepth (s (q x) .args .depths .now) (o (t w))
@@ -185,9 +196,9 @@ module _ (c : tie.After-operation-depth) where
 
 returns-4 : tie.Need-returns-4
 returns-4 c = let y = x c in let a = q y in record {
-  number = operation-accepted (b a) (n a) (k a) (due (d y)) (inside y) (right c);
-  forms-held = λ z. subst (FormsHeld (b a) (n a) (suc (k a))) (sym (appended (t (w c))))
-      (forms-appended (b a) (n a) (k a) (forms y) (forms-held y) (limits y) (least y) (few y) (width-says _ _ .0 (right c) .1));
+  number = operation-accepted (b a) (bits a) (n a) (k a) (due (d y)) (inside y) (right c);
+  forms-held = λ z. subst (FormsHeld (b a) (bits a) (n a) (suc (k a))) (sym (appended (t (w c))))
+      (forms-appended (b a) (bits a) (n a) (k a) (sampled y) (forms y) (forms-held y) (limits y) (least y) (few y) (width-says _ _ .0 (right c) .1));
   depths-held = λ z. subst (λ (v : ℕ). DepthsHeld (b a) (n a) (suc (k a)) (set (s a .args .depths .now) (n a + k a) v)) (sym (depth-is c))
       (depths-appended (b a) (n a) (k a) (s a .args .depths .now) (depths-held y) (limits y) (least y) (few y));
 }

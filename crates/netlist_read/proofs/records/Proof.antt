@@ -1,12 +1,13 @@
 -- `netlist_read::records` meets its contract. Assumes nothing.
 use mathlib.Core.Path.{_≡_, refl, sym, ap, _∙_, subst}
-use Prim.Native.Nat.{ℕ, _+_}
+use Prim.Native.Nat.{ℕ, _+_, _^_, _<_}
 use mathlib.Core.List.{List}
 use native.Mathlib.Omega.{arith}
 use lib.IntN.{ℤ}
 use Rattle.layout_rules.specs.declared.Head.{Head}
 use Rattle.layout_rules.specs.Records.{totalsLength}
-use Rattle.layout_rules.specs.Places.{headAt, firstOperations, operationsIn, outputsIn, totalsPlaceIn, netlistIn}
+use Rattle.layout_rules.specs.Places.{headLengthIn, headAt, firstOperations, operationsIn, outputsIn, totalsPlaceIn, netlistIn}
+use Rattle.layout_rules.proofs.InBytes.{length-due}
 use Rattle.board_rules.specs.Netlist.{HeadLimits}
 use Rattle.netlist_rules.specs.Read.{refused, accepted, headRefusal, readOperations, readOutputs, readNetlist, totalsRefusal}
 use Rattle.netlist_rules.specs.Exact.{readLimits}
@@ -26,13 +27,16 @@ module _ (s : tie.Start) where
   h = s .args .head
 
   due : headRefusal b ≡ 0
-  due = s .pre .0 .due
+  due = s .pre .0 .0 .due
 
   fields : h ≡ headAt b
-  fields = s .pre .0 .fields
+  fields = s .pre .0 .0 .fields
 
-  limits : HeadLimits readLimits h
-  limits = subst (HeadLimits readLimits) (sym fields) (head-due b due .1)
+  start-is : s .args .start ≡ headLengthIn b
+  start-is = s .pre .0 .1
+
+  limits : HeadLimits (readLimits (h .width)) h
+  limits = subst (λ (x : Head). HeadLimits (readLimits (x .width)) x) (sym fields) (head-due b due .1 .limits)
 
 cast-n : tie.Need-cast-n
 cast-n c = search needs
@@ -44,8 +48,12 @@ read-operations-requires : tie.Need-read-operations-requires
 read-operations-requires c κs = let f = c .before .before in let s = f .before .before .before .before in let l = limits s in (
   (l .limits .columns-most, l .few),
   (
-    subst (FormsHeld (b s) (h s .n) 0) (sym (f .start-forms .ensures)) (forms-started (b s) (h s .n) (l .limits .columns-most) (s .args .forms .now) (s .pre .1 .0)),
-    depths-started (b s) (h s .n) (l .limits .columns-most) (s .args .depths .now) (s .pre .1 .1),
+    (
+      subst (FormsHeld (b s) (h s .width) (h s .n) 0) (sym (f .start-forms .ensures))
+          (forms-started (b s) (h s .n) (l .limits .columns-most) (h s .width) (l .width) (s .args .forms .now) (s .pre .1 .0)),
+      depths-started (b s) (h s .n) (l .limits .columns-most) (s .args .depths .now) (s .pre .1 .1),
+    ),
+    (start-is s, l .width),
   ),
 )
 
@@ -55,10 +63,10 @@ module _ (c : tie.After-read-operations) where
   s = c .before .before .before .before .before .before .before
 
   abbrev forms : List ℤ
-  forms = c .read-operations .last .1 .1 .0
+  forms = c .read-operations .last .1 .1 .1 .0
 
-  operations : OperationsRead (b s) (headAt (b s)) (c .read-operations .result) forms (c .read-operations .last .1 .1 .1 .0)
-  operations = subst (λ (x : Head). OperationsRead (b s) x (c .read-operations .result) forms (c .read-operations .last .1 .1 .1 .0)) (fields s) (c .read-operations .ensures)
+  operations : OperationsRead (b s) (headAt (b s)) (c .read-operations .result) forms (c .read-operations .last .1 .1 .1 .1 .0)
+  operations = subst (λ (x : Head). OperationsRead (b s) x (c .read-operations .result) forms (c .read-operations .last .1 .1 .1 .1 .0)) (fields s) (c .read-operations .ensures)
 
 returns : tie.Need-returns
 returns c = let d = c .before .before in record {
@@ -68,7 +76,7 @@ returns c = let d = c .before .before in record {
 
 read-outputs-requires : tie.Need-read-outputs-requires
 read-outputs-requires c κs = let d = c .before .before .before in let l = limits (s d) in
-    ((l .limits .columns-most, (l .limits .rows-most, l .few)), d .read-operations .ensures .forms-held (c .before .if1 .left))
+    ((l .limits .columns-most, (l .limits .rows-most, l .few)), (d .read-operations .ensures .forms-held (c .before .if1 .left), (start-is (s d), l .width)))
 
 -- the outputs
 module _ (c : tie.After-read-outputs) where
@@ -101,7 +109,7 @@ cast-output-place-2 : tie.Need-cast-output-place-2
 cast-output-place-2 c = search needs
 
 output-place-requires : tie.Need-output-place-requires
-output-place-requires c κs = search needs
+output-place-requires c κs = let S' = S (c .before .before .before .before) in (omega (arith, start-is S', length-due (b S')), omega arith, omega arith)
 
 totals-refusal-requires : tie.Need-totals-refusal-requires
 totals-refusal-requires c κs = let o = c .before .before .before .before .before .before in let l = limits (S o) in
@@ -131,12 +139,17 @@ module _ (c : tie.After-totals-refusal) where
   place = p .output-place .result
 
   there : place ≡ totalsPlaceIn B
-  there = p .output-place .ensures ∙ place-is B H (fields (S o))
+  there = p .output-place .ensures ∙ place-is B (S o .args .start) H (start-is (S o)) (fields (S o))
 
   number : c .totals-refusal .result ≡ totalsRefusal B (totalsPlaceIn B) (headAt B) (operationsIn B)
   number = c .totals-refusal .ensures
       ∙ ap (λ (p : ℕ). totalsRefusal B p H (firstOperations B (H .operations))) there
       ∙ ap (λ (y : Head). totalsRefusal B (totalsPlaceIn B) y (firstOperations B (y .operations))) (fields (S o))
+
+  place-fits : place + totalsLength < 2 ^ 64
+  place-fits =
+      let l = limits (S o) in
+      omega (arith, p .output-place .ensures, start-is (S o), length-due B, l .few, l .limits .rows-most)
 
 returns-3 : tie.Need-returns-3
 returns-3 c = let t = c .before in let last = totalsRefusal (B t) (totalsPlaceIn (B t)) (headAt (B t)) (operationsIn (B t)) in record {
@@ -146,10 +159,10 @@ returns-3 c = let t = c .before in let last = totalsRefusal (B t) (totalsPlaceIn
 }
 
 add-if4 : tie.Need-add-if4
-add-if4 c = search needs
+add-if4 c = omega (arith, place-fits (c .before))
 
-add-t19 : tie.Need-add-t19
-add-t19 c = search needs
+add-t20 : tie.Need-add-t20
+add-t20 c = omega (arith, place-fits (c .before .before))
 
 module _ (c : tie.Else3) where
   abbrev t : tie.After-totals-refusal
@@ -172,7 +185,7 @@ module _ (c : tie.Else4) where
   accepts : readNetlist (B (t y)) ≡ accepted (netlistIn (B (t y)))
   accepts = all-accepted (B (t y)) (due (S (o (t y)))) (all (o (t y))) (rows (t y)) (right y) (omega (arith, there (t y), c .if4 .left))
 
-  forms-held : FormsHeld (B (t y)) (headAt (B (t y)) .n) (headAt (B (t y)) .operations) (forms (d (o (t y))))
+  forms-held : FormsHeld (B (t y)) (headAt (B (t y)) .width) (headAt (B (t y)) .n) (headAt (B (t y)) .operations) (forms (d (o (t y))))
   forms-held = operations (d (o (t y))) .forms-held (e (o (t y)) .if1 .left)
 
 returns-5 : tie.Need-returns-5
@@ -207,6 +220,6 @@ records-spec =
     totals-refusal-requires
     returns-3
     add-if4
-    add-t19
+    add-t20
     returns-4
     returns-5)

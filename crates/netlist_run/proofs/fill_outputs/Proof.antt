@@ -1,5 +1,5 @@
 -- `netlist_run::fill_outputs` meets its contract. What is left to write is the outputs from i on. Assumes nothing.
-use mathlib.Core.Path.{_≡_, refl, sym, ap, _∙_, subst}
+use mathlib.Core.Path.{_≡_, refl, sym, ap, ap₂, _∙_, subst}
 use Prim.Native.Nat.{ℕ, _+_, _-_, _^_, _≤_, _<_}
 use mathlib.Core.List.{List, map}
 use native.Mathlib.Omega.{arith}
@@ -13,8 +13,9 @@ use mir.Val.{SFits, toZ, ofZ}
 use Rattle.limits.specs.Limits.{maxRows, maxOperations, maxSymbols}
 use Rattle.integers.proofs.Held.{is, held, call-result}
 use Rattle.layout_rules.specs.declared.Output.{Output}
-use Rattle.layout_rules.specs.Records.{headLength, outputLength, outputOf}
-use Rattle.layout_rules.specs.Places.{outputPlace, payloadOf, headAt, outputAt, outputsIn}
+use Rattle.layout_rules.specs.Records.{outputLength, outputOf}
+use Rattle.layout_rules.specs.Places.{outputPlace, payloadOf, headLengthIn, headAt, outputAt, outputsIn}
+use Rattle.layout_rules.proofs.InBytes.{length-due}
 use Rattle.board_rules.specs.Machine.{entryAt, shifted, withSign, outputValue}
 use Rattle.board_rules.specs.Table.{Small}
 use Rattle.board_rules.specs.Netlist.{OutputOperand}
@@ -30,11 +31,11 @@ abbrev results : List ℕ → List ℤ → List ℤ
 results netlist values = map (outputValue values) (outputsIn netlist)
 
 abbrev Inv-loop : tie.InvT-loop
-Inv-loop netlist m operations values outputs₀ i₀ outputs i =
+Inv-loop netlist start m operations values outputs₀ i₀ outputs i =
     (i ≤ m) × ((length outputs ≡ length outputs₀) × (sets outputs i (drop i (results netlist values)) ≡ sets outputs₀ 0 (results netlist values)))
 
 abbrev μ-loop : tie.MeasureT-loop
-μ-loop netlist m operations values outputs₀ i₀ outputs i = m - i
+μ-loop netlist start m operations values outputs₀ i₀ outputs i = m - i
 
 loop-holds : tie.Need-loop-holds Inv-loop μ-loop
 loop-holds c = (omega arith, (refl, refl))
@@ -56,7 +57,10 @@ module _ (c : tie.In-loop Inv-loop μ-loop) where
   o = outputAt b (headAt b .operations) i
 
   N : NetlistRead b
-  N = s .pre .0
+  N = s .pre .0 .0
+
+  start-is : s .args .start ≡ headLengthIn b
+  start-is = s .pre .0 .1
 
   inside : i < headAt b .m
   inside = omega (arith, s .pre .1 .0 .0, c .loop-test .taken)
@@ -64,17 +68,17 @@ module _ (c : tie.In-loop Inv-loop μ-loop) where
   few : (s .args .operations ≤ maxOperations) × (i < maxRows)
   few = (omega (arith, s .pre .1 .0 .1 .0, head-limits b N .few), omega (arith, inside, head-limits b N .limits .rows-most))
 
-  limits : OutputOperand readLimits (headAt b .n + headAt b .operations) o
+  limits : OutputOperand (readLimits (headAt b .width)) (headAt b .n + headAt b .operations) o
   limits = output-there b N i inside .1 .operand
 
   below : o .symbol < maxSymbols
   below = omega (arith, limits .symbol, head-limits b N .limits .columns-most, head-limits b N .few)
 
 output-place-requires : tie.Need-output-place-requires Inv-loop μ-loop
-output-place-requires c κs = (omega arith, omega (arith, few c), omega (arith, few c))
+output-place-requires c κs = (omega (arith, start-is c, length-due (b c)), omega (arith, few c), omega (arith, few c))
 
-placed : (c : tie.After-output-place Inv-loop μ-loop) → c .output-place .result ≡ outputPlace headLength (headAt (b (c .before)) .operations) (i (c .before))
-placed c = c .output-place .ensures ∙ ap (λ (k : ℕ). outputPlace headLength k (i (c .before))) (s (c .before) .pre .1 .0 .1 .0)
+placed : (c : tie.After-output-place Inv-loop μ-loop) → c .output-place .result ≡ outputPlace (headLengthIn (b (c .before))) (headAt (b (c .before)) .operations) (i (c .before))
+placed c = c .output-place .ensures ∙ ap₂ (λ (h k : ℕ). outputPlace h k (i (c .before))) (start-is (c .before)) (s (c .before) .pre .1 .0 .1 .0)
 
 output-at-requires : tie.Need-output-at-requires Inv-loop μ-loop
 output-at-requires c κs = let d = c .before in omega (arith, placed c, output-there (b d) (N d) (i d) (inside d) .0)
@@ -140,7 +144,7 @@ same-length : tie.Need-same-length Inv-loop μ-loop
 same-length c = c .before .loop .inv .1 .0
 
 returns : tie.Need-returns Inv-loop μ-loop
-returns c = let l = c .before in let s = l .before .before in let b = s .args .netlist .now in let vs = results b (s .args .values .now) in let k = results-count b (s .pre .0) (s .args .values .now) in
+returns c = let l = c .before in let s = l .before .before in let b = s .args .netlist .now in let vs = results b (s .args .values .now) in let k = results-count b (s .pre .0 .0) (s .args .values .now) in
     sym (sets-none (pos 0) vs (l .loop .outputs) (l .loop .i) (l .loop .i) (omega (arith, k, s .pre .1 .0 .0, c .loop-test .left)))
     ∙ l .loop .inv .1 .1 ∙ all-set vs (s .args .outputs .now) (omega (arith, k, s .pre .1 .0 .0, s .pre .1 .0 .1 .1))
 

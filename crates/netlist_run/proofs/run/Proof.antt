@@ -1,21 +1,26 @@
 -- `netlist_run::run` meets its contract. Assumes nothing.
-use mathlib.Core.Path.{_≡_, sym, ap, _∙_, subst}
-use Prim.Native.Nat.{ℕ, _+_}
+use mathlib.Core.Path.{_≡_, sym, ap, ap₂, _∙_, subst}
+use Prim.Native.Nat.{ℕ, _+_, _≤_}
 use mathlib.Core.List.{List}
 use native.Mathlib.Omega.{arith}
 use lib.IntN.{ℤ, pos}
 use lib.ListN.{length, take}
-use Rattle.limits.specs.Limits.{sampleWidth, maxSymbols}
+use Rattle.limits.specs.Limits.{maxColumns, maxSymbols}
+use Rattle.limits.specs.Size.{SampleWidth}
+use Rattle.layout_rules.specs.declared.Head.{Head}
 use Rattle.layout_rules.specs.Places.{headAt, operationsIn, netlistIn}
 use Rattle.board_rules.specs.Machine.{machine}
 use Rattle.board_rules.specs.Width.{Samples}
 use Rattle.netlist_rules.specs.declared.ReadAnswer.{ReadAnswer}
+use Rattle.netlist_rules.specs.declared.RunAnswer.{RunAnswer}
+use Rattle.netlist_rules.specs.Run.{fitAnswer}
+use Rattle.netlist_rules.proofs.RunLaws.{fit-samples-only}
 use Rattle.netlist_rules.specs.Read.{accepted, readNetlist, readAccepted}
 use Rattle.netlist_read.specs.Tables.{NetlistRead}
 use Rattle.netlist_run.specs.Board.{BoardReady}
 use Rattle.board_rules.proofs.TableLaws.{length-filled}
-use Rattle.netlist_read.proofs.NetlistLaws.{head-limits, answer-accepted}
-use Rattle.netlist_run.proofs.BoardLaws.{value-small, outputs-same, run-declines, samples-differ, outputs-differ, counts-agree}
+use Rattle.netlist_read.proofs.NetlistLaws.{head-limits, head-there, answer-accepted}
+use Rattle.netlist_run.proofs.BoardLaws.{value-small, outputs-same, run-declines, samples-differ, outputs-differ, samples-outside, samples-fit}
 use borrow.Author.Needs.{needs}
 use Rattle.netlist_run.proofs.run.Statement.{statement}
 use Rattle.netlist_run.proofs.run.Tie as tie
@@ -81,78 +86,129 @@ returns-3 : tie.Need-returns-3
 returns-3 c = let e = c .before .before .before .before in let D = d e in
     outputs-differ (b D) (xs D) (outs D) (netlistIn (b D)) (reads e) (c .before .if2 .left ∙ n-is e) (λ z. c .if3 .taken (z ∙ sym (m-is e)))
 
-cast-operations : tie.Need-cast-operations
-cast-operations c = search needs
-
 blank-values-requires : tie.Need-blank-values-requires
 blank-values-requires c κs = search needs
 
-start-values-requires : tie.Need-start-values-requires
-start-values-requires c κs = let v = c .before in let x = v .before .before in let e = x .before .before .before .before in
-    (omega (arith, x .before .if2 .left, n-is e, head-limits (b (d e)) (N e) .limits .columns-most), ap (λ (l : List ℤ). length l) (v .blank-values .ensures) ∙ length-filled (pos 0) maxSymbols)
-
--- the samples are in the table
-module _ (c : tie.After-start-values) where
-  abbrev x : tie.Else3
-  x = c .before .before .before .before
-
+-- the samples are n, the outputs lent m
+module _ (c : tie.Else3) where
   abbrev e : tie.Else1
-  e = x .before .before .before .before
+  e = c .before .before .before .before
 
   abbrev n : ℕ
   n = d e .netlist .result .n
 
-  abbrev values : List ℤ
-  values = c .start-values .last .1 .0
-
   count : length (xs (d e)) ≡ n
-  count = x .before .if2 .left
+  count = c .before .if2 .left
 
-  started : take n values ≡ xs (d e)
-  started = ap (λ (k : ℕ). take k values) (sym count) ∙ c .start-values .ensures .held
+  few : n ≤ maxColumns
+  few = omega (arith, n-is e, head-limits (b (d e)) (N e) .limits .columns-most)
 
-  of-width : Samples sampleWidth n (take n values)
-  of-width = subst (λ (l : List ℤ). Samples sampleWidth n l) (sym started) (subst (λ (k : ℕ). Samples sampleWidth k (xs (d e))) count (c .start-values .ensures .of-width))
+start-values-requires : tie.Need-start-values-requires
+start-values-requires c κs = let v = c .before in let x = v .before in
+    (omega (arith, count x, few x), ap (λ (l : List ℤ). length l) (v .blank-values .ensures) ∙ length-filled (pos 0) maxSymbols)
 
-run-operations-requires : tie.Need-run-operations-requires
-run-operations-requires c κs = let v = c .before in (N (e v), ((n-is (e v), operations-is (e v)), (v .start-values .ensures .room, of-width v)))
+head-at-requires : tie.Need-head-at-requires
+head-at-requires c κs = let E = e (c .before .before .before) in head-there (b (d E)) (N E) .0
 
--- the board machine has run
-module _ (c : tie.After-run-operations) where
+-- they are in the table
+module _ (c : tie.After-head-at) where
   abbrev v : tie.After-start-values
-  v = c .before .before
+  v = c .before
+
+  abbrev x : tie.Else3
+  x = v .before .before .before
 
   abbrev E : tie.Else1
-  E = e v
+  E = e x
 
   abbrev B : List ℕ
   B = b (d E)
 
+  abbrev values : List ℤ
+  values = v .start-values .last .1 .0
+
+  started : take (n x) values ≡ xs (d E)
+  started = ap (λ (k : ℕ). take k values) (sym (count x)) ∙ v .start-values .ensures .held
+
+  width-is : c .head-at .result .width ≡ headAt B .width
+  width-is = ap (λ (h : Head). h .width) (c .head-at .ensures)
+
+fit-answer-requires : tie.Need-fit-answer-requires
+fit-answer-requires c κs = let h = c .before in
+    (subst SampleWidth (sym (width-is h)) (head-limits (B h) (N (E h)) .width), (few (x h), v h .start-values .ensures .room))
+
+-- and tested
+module _ (c : tie.After-fit-answer) where
+  abbrev h : tie.After-head-at
+  h = c .before .before
+
+  answer-is : c .fit-answer .result ≡ fitAnswer (headAt (B h) .width) 0 (xs (d (E h)))
+  answer-is = c .fit-answer .ensures ∙ ap₂ (λ (s : ℕ) (l : List ℤ). fitAnswer s 0 l) (width-is h) (started h)
+
+returns-4 : tie.Need-returns-4
+returns-4 c = let f = c .before .before in let H = h f in let D = d (E H) in
+    samples-outside (B H) (xs D) (outs D) (netlistIn (B H)) (reads (E H)) (count (x H) ∙ n-is (E H)) (x H .if3 .left ∙ m-is (E H)) (f .fit-answer .result) (answer-is f) (c .if4 .taken)
+
+due-length-requires : tie.Need-due-length-requires
+due-length-requires c κs = let E' = E (h (c .before .before)) in head-there (b (d E')) (N E') .1
+
+cast-operations : tie.Need-cast-operations
+cast-operations c = search needs
+
+-- they fit
+module _ (c : tie.After-due-length) where
+  abbrev y : tie.Else4
+  y = c .before
+
+  abbrev H : tie.After-head-at
+  H = h (y .before .before)
+
+  of-width : Samples (headAt (B H) .width) (n (x H)) (xs (d (E H)))
+  of-width = fit-samples-only (count (x H)) (sym (ap (λ (a : RunAnswer). a .refusal) (answer-is (y .before .before))) ∙ y .if4 .left)
+
+  in-table : Samples (headAt (B H) .width) (n (x H)) (take (n (x H)) (values H))
+  in-table = subst (Samples (headAt (B H) .width) (n (x H))) (sym (started H)) of-width
+
+run-operations-requires : tie.Need-run-operations-requires
+run-operations-requires c κs = let s = c .before .before in let H' = H s in
+    ((N (E H'), s .due-length .ensures), ((n-is (E H'), operations-is (E H')), (v H' .start-values .ensures .room, in-table s)))
+
+-- the board machine has run
+module _ (c : tie.After-run-operations) where
+  abbrev s' : tie.After-due-length
+  s' = c .before .before .before
+
+  abbrev T : tie.After-head-at
+  T = H s'
+
   abbrev entries : List ℤ
-  entries = c .run-operations .last .1 .1 .1 .0
+  entries = c .run-operations .last .1 .1 .1 .1 .0
 
-  ran : take (headAt B .n + headAt B .operations) entries ≡ machine (take (n v) (values v)) (operationsIn B)
-  ran = ap (λ (k : ℕ). take (k + headAt B .operations) entries) (sym (n-is E)) ∙ ap (λ (k : ℕ). take (n v + k) entries) (sym (operations-is E)) ∙ c .run-operations .ensures .1
+  ran : take (headAt (B T) .n + headAt (B T) .operations) entries ≡ machine (take (n (x T)) (values T)) (operationsIn (B T))
+  ran = ap (λ (k : ℕ). take (k + headAt (B T) .operations) entries) (sym (n-is (E T))) ∙ ap (λ (k : ℕ). take (n (x T) + k) entries) (sym (operations-is (E T))) ∙ c .run-operations .ensures .1
 
-  ready : BoardReady B entries
+  ready : BoardReady (B T) entries
   ready = record {
     room = c .run-operations .ensures .0;
-    small = value-small B (N E) (take (n v) (values v)) (subst (λ (k : ℕ). Samples sampleWidth k (take (n v) (values v))) (n-is E) (of-width v)) (headAt B .operations) entries ran (omega arith);
+    small = value-small (B T) (N (E T)) (take (n (x T)) (values T)) (subst (λ (k : ℕ). Samples (headAt (B T) .width) k (take (n (x T)) (values T))) (n-is (E T)) (in-table s'))
+        (headAt (B T) .operations) entries ran (omega arith);
   }
 
 fill-outputs-requires : tie.Need-fill-outputs-requires
-fill-outputs-requires c κs = let r = c .before .before in let y = x (v r) in (N (E r), ((m-is (E r), (operations-is (E r), y .if3 .left)), ready r))
+fill-outputs-requires c κs = let r = c .before .before in let E' = E (T r) in
+    ((N E', s' r .due-length .ensures), ((m-is E', (operations-is E', x (T r) .if3 .left)), ready r))
 
 same-length : tie.Need-same-length
 same-length c = search needs
 
-returns-4 : tie.Need-returns-4
-returns-4 c = let f = c .before in let r = f .before .before .before in let y = x (v r) in let D = d (E r) in
-    let agree = counts-agree (b D) (xs D) (outs D) (netlistIn (b D)) (reads (E r)) (count (v r) ∙ n-is (E r)) (y .if3 .left ∙ m-is (E r)) in (
-      agree .0,
+returns-5 : tie.Need-returns-5
+returns-5 c = let f = c .before in let r = f .before .before .before in let H' = T r in let D = d (E H') in
+    let fit = samples-fit (B H') (xs D) (outs D) (netlistIn (B H')) (reads (E H')) (count (x H') ∙ n-is (E H')) (x H' .if3 .left ∙ m-is (E H'))
+    (subst (λ (k : ℕ). Samples (headAt (B H') .width) k (xs D)) (n-is (E H')) (of-width (s' r))) in (
+      fit .0,
       f .fill-outputs .ensures
-          ∙ outputs-same (b D) (N (E r)) (machine (xs D) (operationsIn (b D))) (entries r) (ran r ∙ ap (λ (l : List ℤ). machine l (operationsIn (b D))) (started (v r)))
-          ∙ agree .1,
+          ∙ outputs-same (B H') (N (E H')) (machine (xs D) (operationsIn (B H'))) (entries r) (ran r ∙ ap (λ (l : List ℤ). machine l (operationsIn (B H'))) (started H'))
+          ∙ fit .1,
     )
 
 pub run-spec : {M : Type 1} → statement M
@@ -167,10 +223,14 @@ run-spec =
     cast-m
     returns-2
     returns-3
-    cast-operations
     blank-values-requires
     start-values-requires
+    head-at-requires
+    fit-answer-requires
+    returns-4
+    due-length-requires
+    cast-operations
     run-operations-requires
     fill-outputs-requires
     same-length
-    returns-4)
+    returns-5)

@@ -9,7 +9,8 @@ use lib.ListN.{take}
 use Rattle.limits.specs.Limits.{maxSymbols}
 use Rattle.layout_rules.specs.declared.Operation.{Operation}
 use Rattle.layout_rules.specs.Records.{operationLength, operationOf}
-use Rattle.layout_rules.specs.Places.{payloadOf, headAt, operationAt, firstOperations}
+use Rattle.layout_rules.specs.Places.{operationPlace, payloadOf, headLengthIn, headAt, operationAt, firstOperations}
+use Rattle.layout_rules.proofs.InBytes.{length-due}
 use Rattle.board_rules.specs.Machine.{machine}
 use Rattle.board_rules.specs.Table.{valueAppended}
 use Rattle.board_rules.specs.Netlist.{OperationLimits}
@@ -21,10 +22,10 @@ use Rattle.netlist_run.proofs.run_operations.Statement.{statement}
 use Rattle.netlist_run.proofs.run_operations.Tie as tie
 
 abbrev Inv-loop : tie.InvT-loop
-Inv-loop netlist n operations values₀ k₀ values k = (k ≤ operations) × BoardAt netlist n k (take n values₀) values
+Inv-loop netlist start n operations values₀ k₀ values k = (k ≤ operations) × BoardAt netlist n k (take n values₀) values
 
 abbrev μ-loop : tie.MeasureT-loop
-μ-loop netlist n operations values₀ k₀ values k = operations - k
+μ-loop netlist start n operations values₀ k₀ values k = operations - k
 
 loop-holds : tie.Need-loop-holds Inv-loop μ-loop
 loop-holds c = let s = c .before in (omega arith, board-started (s .args .netlist .now) (s .args .n) (s .args .values .now) (s .pre .1 .1 .0) (s .pre .1 .1 .1))
@@ -49,7 +50,10 @@ module _ (c : tie.In-loop Inv-loop μ-loop) where
   values = l .loop .values
 
   N : NetlistRead b
-  N = s .pre .0
+  N = s .pre .0 .0
+
+  start-is : s .args .start ≡ headLengthIn b
+  start-is = s .pre .0 .1
 
   same : n ≡ headAt b .n
   same = s .pre .1 .0 .0
@@ -60,24 +64,27 @@ module _ (c : tie.In-loop Inv-loop μ-loop) where
   small : n + k < maxSymbols
   small = omega (arith, inside, same, head-limits b N .limits .columns-most, head-limits b N .few)
 
-  limits : OperationLimits readLimits (n + k) (operationAt b k)
-  limits = subst (λ (x : ℕ). OperationLimits readLimits (x + k) (operationAt b k)) (sym same) (operation-there b N k inside .1)
+  limits : OperationLimits (readLimits (headAt b .width)) (n + k) (operationAt b k)
+  limits = subst (λ (x : ℕ). OperationLimits (readLimits (headAt b .width)) (x + k) (operationAt b k)) (sym same) (operation-there b N k inside .1)
 
   board : BoardAt b n k (take n (s .args .values .now)) values
   board = l .loop .inv .1
 
 operation-place-requires : tie.Need-operation-place-requires Inv-loop μ-loop
-operation-place-requires c κs = (omega arith, omega (arith, small c))
+operation-place-requires c κs = (omega (arith, start-is c, length-due (b c)), omega (arith, small c))
+
+placed : (c : tie.After-operation-place Inv-loop μ-loop) → c .operation-place .result ≡ operationPlace (headLengthIn (b (c .before))) (k (c .before))
+placed c = c .operation-place .ensures ∙ ap (λ (start : ℕ). operationPlace start (k (c .before))) (start-is (c .before))
 
 operation-at-requires : tie.Need-operation-at-requires Inv-loop μ-loop
-operation-at-requires c κs = let d = c .before in omega (arith, c .operation-place .ensures, operation-there (b d) (N d) (k d) (inside d) .0)
+operation-at-requires c κs = let d = c .before in omega (arith, placed c, operation-there (b d) (N d) (k d) (inside d) .0)
 
 module _ (c : tie.After-operation-at Inv-loop μ-loop) where
   abbrev d : tie.In-loop Inv-loop μ-loop
   d = c .before .before
 
   read : c .operation-at .result ≡ operationAt (b d) (k d)
-  read = c .operation-at .ensures ∙ ap (λ (p : ℕ). operationOf (payloadOf (b d) p operationLength)) (c .before .operation-place .ensures)
+  read = c .operation-at .ensures ∙ ap (λ (p : ℕ). operationOf (payloadOf (b d) p operationLength)) (placed (c .before))
 
 add-append-value : tie.Need-add-append-value Inv-loop μ-loop
 add-append-value c = omega (arith, small (d (c .before)))

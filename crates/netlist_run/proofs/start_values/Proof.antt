@@ -1,51 +1,37 @@
 -- `netlist_run::start_values` meets its contract. The samples before j are in the table. Assumes nothing.
 use mathlib.Core.Path.{_≡_, refl, _∙_, subst}
-use Prim.Native.Nat.{ℕ, suc, _-_, _^_, _≤_, _<_}
-use mathlib.Core.List.{List}
+use Prim.Native.Nat.{ℕ, _-_, _^_, _≤_, _<_}
 use native.Mathlib.Omega.{arith}
-use native.Mathlib.Decide.{decLt}
 use native.Mathlib.Numerals.{add-one}
 use lib.IntN.{ℤ, pos}
 use lib.ListN.{length, getD, take, length-set}
 use lib.Seq.{take-length}
 use lib.Signed.{mag}
-use mir.Syntax.{w16, w64}
+use mir.Syntax.{w32, w64}
 use mir.Val.{SFits, toZ, ofZ}
-use Rattle.limits.specs.Limits.{sampleWidth, maxSymbols}
+use Rattle.limits.specs.Limits.{maxSymbols}
 use Rattle.integers.proofs.Held.{is, held, need-cast, held-cast}
-use Rattle.board_rules.specs.Width.{Within}
-use Rattle.netlist_run.proofs.BoardLaws.{sample-within, sample-next}
+use Rattle.netlist_run.proofs.BoardLaws.{sample-next}
 use Rattle.netlist_run.proofs.start_values.Statement.{statement}
 use Rattle.netlist_run.proofs.start_values.Tie as tie
 
--- the samples seen so far are of their width
-abbrev Seen : List ℤ → ℕ → Type 0
-Seen samples j = (i : ℕ) → i < j → Within sampleWidth (getD samples i (pos 0))
-
 abbrev Inv-loop : tie.InvT-loop
-Inv-loop samples values₀ n j₀ values j = (j ≤ n) × ((length values ≡ maxSymbols) × ((take j values ≡ take j samples) × Seen samples j))
+Inv-loop samples values₀ n j₀ values j = (j ≤ n) × ((length values ≡ maxSymbols) × (take j values ≡ take j samples))
 
 abbrev μ-loop : tie.MeasureT-loop
 μ-loop samples values₀ n j₀ values j = n - j
 
-seen-next : (samples : List ℤ) (j : ℕ) → Seen samples j → Within sampleWidth (getD samples j (pos 0)) → Seen samples (suc j)
-seen-next samples j before here i h = go (decLt i j)
-  where
-    go : Dec (i < j) → Within sampleWidth (getD samples i (pos 0))
-    go (yes l) = before i l
-    go (no l) = let e : i ≡ j = omega arith in rw e here
-
-wider : (z : ℤ) → mag z < 2 ^ 15 → SFits w64 z
+wider : (z : ℤ) → mag z < 2 ^ 31 → SFits w64 z
 wider z ok = record { sfits = omega (arith, ok) }
 
-fits-wide : (z : ℤ) → mag z < 2 ^ 15 → SFits w64 (toZ w16 (ofZ w16 z))
+fits-wide : (z : ℤ) → mag z < 2 ^ 31 → SFits w64 (toZ w32 (ofZ w32 z))
 fits-wide z ok = need-cast w64 (held (record { sfits = ok })) (wider z ok)
 
-copied : (z : ℤ) → mag z < 2 ^ 15 → toZ w64 (ofZ w64 (toZ w16 (ofZ w16 z))) ≡ z
+copied : (z : ℤ) → mag z < 2 ^ 31 → toZ w64 (ofZ w64 (toZ w32 (ofZ w32 z))) ≡ z
 copied z ok = is (held-cast w64 (held (record { sfits = ok })) (wider z ok))
 
 loop-holds : tie.Need-loop-holds Inv-loop μ-loop
-loop-holds c = (omega arith, (c .pre .1, (refl, λ i h. absurd (omega arith))))
+loop-holds c = (omega arith, (c .pre .1, refl))
 
 mul-values : tie.Need-mul-values Inv-loop μ-loop
 mul-values c = omega arith
@@ -73,19 +59,15 @@ loop-again c = let l = c .before .before in let samples = l .before .args .sampl
     rw add-one (
       omega arith,
       (
-        length-set (l .loop .values) j (toZ w64 (ofZ w64 (toZ w16 (ofZ w16 z)))) ∙ l .loop .inv .1 .0,
-        (
-          sample-next samples (l .loop .values) j (toZ w64 (ofZ w64 (toZ w16 (ofZ w16 z)))) (omega arith) (omega arith) (copied z (c .values .given)) (l .loop .inv .1 .1 .0),
-          seen-next samples j (l .loop .inv .1 .1 .1) (sample-within z (c .values .given)),
-        ),
+        length-set (l .loop .values) j (toZ w64 (ofZ w64 (toZ w32 (ofZ w32 z)))) ∙ l .loop .inv .1 .0,
+        sample-next samples (l .loop .values) j (toZ w64 (ofZ w64 (toZ w32 (ofZ w32 z)))) (omega arith) (omega arith) (copied z (c .values .given)) (l .loop .inv .1 .1),
       ),
     )
 
 returns : tie.Need-returns Inv-loop μ-loop
 returns c = let l = c .before in let samples = l .before .args .samples .now in let e : l .loop .j ≡ length (l .before .args .samples .now) = omega arith in record {
   room = l .loop .inv .1 .0;
-  held = subst (λ (j : ℕ). take j (l .loop .values) ≡ take j samples) e (l .loop .inv .1 .1 .0) ∙ take-length samples;
-  of-width = record { count = refl; within = subst (λ (j : ℕ). Seen samples j) e (l .loop .inv .1 .1 .1) };
+  held = subst (λ (j : ℕ). take j (l .loop .values) ≡ take j samples) e (l .loop .inv .1 .1) ∙ take-length samples;
 }
 
 pub start-values-spec : {M : Type 1} → statement M

@@ -6,10 +6,10 @@ use native.Mathlib.Omega.{arith}
 use lib.Dec.{eqb}
 use borrow.Author.Tests.{eq-eqb, ne-eqb}
 use Rattle.limits.specs.Size.{SizeLimits, sizeOutside}
-use Rattle.limits.proofs.Size.{size-within, bank-size}
+use Rattle.limits.proofs.Size.{size-within}
 use Rattle.layout_rules.specs.declared.Head.{Head}
 use Rattle.netlist_rules.specs.Read.{headInRange}
-use Rattle.netlist_rules.proofs.Conditions.{head-says}
+use Rattle.netlist_rules.proofs.Conditions.{size-says}
 use Rattle.netlist_tests.proofs.RecordLaws.{fails}
 use borrow.Author.Needs.{needs}
 use Rattle.netlist_tests.proofs.head_in_range.Statement.{statement}
@@ -58,17 +58,16 @@ cast-if4 : tie.Need-cast-if4
 cast-if4 c = search needs
 
 returns-3 : tie.Need-returns-3
-returns-3 c = let d = c .before .before .before in sym (fails (headInRange (h d)) (head-says (h d)) (λ l. omega (arith, l .few)))
+returns-3 c =
+    let e = c .before .before in
+    let d = e .before in
+    sym (fails (headInRange (h d)) (size-says (h d)) (⊎-elim (λ z. omega (arith, z .0 .0, within e .rows-least)) (λ l. omega (arith, l .1))))
 
 returns-4 : tie.Need-returns-4
 returns-4 c =
     let e = c .before .before in
     let d = e .before in
-    sym (head-says (h d) .1 (record {
-      limits = bank-size (h d .m) (h d .n) .1 (inr (within e));
-      few = omega arith;
-      none = λ z. absurd (omega (arith, z, within e .rows-least));
-    }))
+    sym (size-says (h d) .1 (inr (within e, omega arith)))
 
 pub head-in-range-spec : {M : Type 1} → statement M
 head-in-range-spec = tie.close (tie.spec size-outside-requires returns returns-2 cast-if4 returns-3 returns-4)
