@@ -2,6 +2,37 @@
 
 use crate::random::Random;
 
+/// Bytes for heads: kinds, lengths, and widths at the ends of their range and past them.
+const HEAD_BYTES: [u8; 14] = [0, 1, 2, 5, 6, 7, 8, 9, 12, 16, 24, 25, 128, 255];
+
+/// A netlist with other heads: each byte of its own set to several values, which makes a kind with the other's length, and each of the two
+/// kinds in its place, with several widths.
+pub fn other_heads(netlist: &[u8]) -> Vec<Vec<u8>> {
+    let (head, rest) = netlist.split_at(if netlist[2] == 6 { 9 } else { 8 });
+    let mut heads = vec![[&[8, 0, 2, 0], &head[4..8]].concat()];
+    for width in HEAD_BYTES {
+        heads.push([&[9, 0, 6, 0], &head[4..8], &[width]].concat());
+    }
+    for (place, &old) in head.iter().enumerate() {
+        let near = [old ^ 1, old.wrapping_add(1), old.wrapping_sub(1)];
+        for value in HEAD_BYTES.into_iter().chain(near) {
+            let mut changed = head.to_vec();
+            changed[place] = value;
+            heads.push(changed);
+        }
+    }
+    heads.sort();
+    heads.dedup();
+    heads.retain(|other| other != head);
+    heads.iter().map(|head| [head, rest].concat()).collect()
+}
+
+/// Damages a netlist in its head alone.
+pub fn damage_head(random: &mut Random, netlist: &[u8]) -> Vec<u8> {
+    let mut all = other_heads(netlist);
+    all.swap_remove(random.between(0, all.len() - 1))
+}
+
 /// Damages bytes in one of several ways; `other` is what may be spliced in.
 pub fn damage(random: &mut Random, bytes: &[u8], other: &[u8]) -> Vec<u8> {
     let mut damaged = bytes.to_vec();

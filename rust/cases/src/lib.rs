@@ -7,7 +7,7 @@ mod netlists;
 mod random;
 mod runs;
 
-pub use damage::{damage, damage_matrix};
+pub use damage::{damage, damage_head, damage_matrix, other_heads};
 pub use market::{damaged_market_file, market_file, plain_market_file};
 pub use matrices::{any_bank, any_matrix, bank, filled, Matrix};
 pub use netlists::{any_netlist, plain_netlist};

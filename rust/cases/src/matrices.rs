@@ -40,8 +40,8 @@ impl Matrix {
     }
 
     /// Row times vector, for each row.
-    pub fn times(&self, samples: &[i16]) -> Vec<i64> {
-        let product = |(&c, &x): (&i16, &i16)| i64::from(c) * i64::from(x);
+    pub fn times(&self, samples: &[i32]) -> Vec<i64> {
+        let product = |(&c, &x): (&i16, &i32)| i64::from(c) * i64::from(x);
         let row_times = |row: &Vec<i16>| row.iter().zip(samples).map(product).sum();
         self.rows.iter().map(row_times).collect()
     }

@@ -17,23 +17,25 @@ type Operand = (usize, u32);
 /// A netlist under construction.
 struct Builder {
     n: usize,
+    sample_width: u8,
     records: Vec<u8>,
     entries: Vec<Entry>,
 }
 
 impl Builder {
-    fn new(n: usize) -> Self {
+    fn new(n: usize, sample_width: u8) -> Self {
         let input = |j: usize| {
             let mut form = [0; 8];
             form[j] = 1;
             Entry {
                 form,
                 depth: 0,
-                width: 16,
+                width: sample_width,
             }
         };
         Builder {
             n,
+            sample_width,
             records: Vec::new(),
             entries: (0..n).map(input).collect(),
         }
@@ -59,7 +61,7 @@ impl Builder {
         let entry = Entry {
             form,
             depth: 1 + entry_a.depth.max(entry_b.depth),
-            width: width(&form),
+            width: width(&form, self.sample_width),
         };
         let [a0, a1] = (a.0 as u16).to_le_bytes();
         let [b0, b1] = (b.0 as u16).to_le_bytes();
@@ -76,7 +78,8 @@ impl Builder {
             .form
             .map(|c| sign * (c << operand.1));
         let [low, high] = (operand.0 as u16).to_le_bytes();
-        let payload = [u8::from(minus), low, high, operand.1 as u8, width(&form)];
+        let width = width(&form, self.sample_width);
+        let payload = [u8::from(minus), low, high, operand.1 as u8, width];
         self.record(4, &payload);
     }
 
@@ -89,28 +92,45 @@ impl Builder {
         let [low, high] = (self.operations() as u16).to_le_bytes();
         let depth = self.entries.iter().map(|entry| entry.depth).max();
         let [d0, d1] = depth.unwrap_or(0).to_le_bytes();
-        let mut bytes = vec![8, 0, 2, 0, m as u8, self.n as u8, low, high];
+        let mut bytes = head(m as u8, self.n as u8, [low, high], self.sample_width);
         bytes.extend(self.records);
         bytes.extend([8, 0, 5, 0, low, high, d0, d1]);
         bytes
     }
 }
 
-/// The smallest width of a form over all samples of 16 bits, or 255 where it is larger than 100.
-fn width(form: &[i128; 8]) -> u8 {
-    let end = |sample: fn(i128) -> i128| form.iter().map(|&c| c * sample(c)).sum::<i128>();
-    let highest = end(|c| if c > 0 { 32_767 } else { -32_768 });
-    let lowest = end(|c| if c > 0 { -32_768 } else { 32_767 });
+/// The head of kind 2 for samples of 16 bits, else that of kind 6, which says the width.
+fn head(m: u8, n: u8, [low, high]: [u8; 2], sample_width: u8) -> Vec<u8> {
+    match sample_width {
+        16 => vec![8, 0, 2, 0, m, n, low, high],
+        _ => vec![9, 0, 6, 0, m, n, low, high, sample_width],
+    }
+}
+
+/// The smallest width of a form over all samples, or 255 where it is larger than 100.
+fn width(form: &[i128; 8], sample_width: u8) -> u8 {
+    let (least, most) = (-(1 << (sample_width - 1)), (1 << (sample_width - 1)) - 1);
+    let end = |[negative, positive]: [i128; 2]| {
+        let sample = |&c: &i128| if c > 0 { positive } else { negative };
+        form.iter().map(|c| c * sample(c)).sum::<i128>()
+    };
+    let (highest, lowest) = (end([least, most]), end([most, least]));
     let holds = |w: &u8| lowest >= -(1i128 << (w - 1)) && highest < 1i128 << (w - 1);
     (1..=100).find(holds).unwrap_or(255)
 }
 
-/// Any operations on any entries, right in every field, but that a width may exceed 40. Without inputs there are no operations.
-pub fn any_netlist(random: &mut Random, m: usize, n: usize, operations: usize) -> Vec<u8> {
-    let mut builder = Builder::new(n);
+/// Any operations on any entries, right in every field, but that a width may exceed 44. Without inputs there are no operations.
+pub fn any_netlist(
+    random: &mut Random,
+    sample_width: u8,
+    m: usize,
+    n: usize,
+    operations: usize,
+) -> Vec<u8> {
+    let mut builder = Builder::new(n, sample_width);
     let operations = if n == 0 { 0 } else { operations };
     let most_shift = random.choose(&[0, 1, 4, 15]);
-    let most_width = random.choose(&[30, 38, 39, 40, 41]);
+    let most_width = random.choose(&[30, 40, 42, 43, 44, 45]);
     for _ in 0..operations {
         let a = operand(random, &builder, most_shift, most_width);
         let b = operand(random, &builder, most_shift, most_width);
@@ -143,8 +163,8 @@ fn operand(random: &mut Random, builder: &Builder, most_shift: usize, most_width
 
 /// A netlist that computes the matrix from binary digits, row by row, in an order that the random numbers choose; none where
 /// it would have more than 504 operations.
-pub fn plain_netlist(random: &mut Random, matrix: &Matrix) -> Option<Vec<u8>> {
-    let mut builder = Builder::new(matrix.n());
+pub fn plain_netlist(random: &mut Random, sample_width: u8, matrix: &Matrix) -> Option<Vec<u8>> {
+    let mut builder = Builder::new(matrix.n(), sample_width);
     let mut outputs = Vec::new();
     for row in &matrix.rows {
         outputs.push(row_sum(random, &mut builder, row));

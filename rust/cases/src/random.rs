@@ -46,12 +46,52 @@ impl Random {
         (self.number() as i16) >> (16 - bits)
     }
 
-    /// A sample: any, or one of the ends.
-    pub fn sample(&mut self) -> i16 {
+    /// A width that samples may have: 16, or any of 8 to 24 bits.
+    pub fn sample_width(&mut self) -> u8 {
+        if self.once_in(2) {
+            16
+        } else {
+            self.between(8, 24) as u8
+        }
+    }
+
+    /// A sample of so many bits: any, or one of the ends.
+    pub fn sample(&mut self, width: u8) -> i32 {
+        let above = 32 - u32::from(width);
         match self.between(0, 3) {
-            0 => i16::MIN,
-            1 => i16::MAX,
-            _ => self.number() as i16,
+            0 => i32::MIN >> above,
+            1 => i32::MAX >> above,
+            _ => (self.number() as i32) << above >> above,
+        }
+    }
+
+    pub fn samples(&mut self, width: u8, count: usize) -> Vec<i32> {
+        (0..count).map(|_| self.sample(width)).collect()
+    }
+
+    /// Samples, of which in one vector of three some need not fit their width.
+    pub fn near_samples(&mut self, width: u8, count: usize) -> Vec<i32> {
+        let mut samples = self.samples(width, count);
+        if count > 0 && self.once_in(3) {
+            for _ in 0..self.between(1, 3) {
+                samples[self.between(0, count - 1)] = self.near_sample(width);
+            }
+        }
+        samples
+    }
+
+    /// A number where a sample of so many bits is due: one past its ends, of more bits, or any.
+    fn near_sample(&mut self, width: u8) -> i32 {
+        let above = 32 - u32::from(width);
+        match self.between(0, 4) {
+            0 => (i32::MIN >> above) - 1,
+            1 => (i32::MAX >> above) + 1,
+            2 => {
+                let more = self.between(usize::from(width), 31) as u8 + 1;
+                self.sample(more)
+            }
+            3 => self.choose(&[i32::MIN, i32::MAX]),
+            _ => self.number() as i32,
         }
     }
 }

@@ -4,6 +4,7 @@ use crate::board::{Board, Operand, Operation, Output};
 use crate::elimination::{Elimination, Order, Rows};
 use crate::matrix::Matrix;
 use crate::refusal::{require, Refusal};
+use crate::samples::Samples;
 use crate::sums::{Operands, Sums};
 use crate::width::Entries;
 
@@ -30,21 +31,30 @@ pub struct Rules {
     pub operands: Operands,
 }
 
-/// Writes the netlist of a matrix record into the first bytes of `buffer`.
-pub fn compile(matrix: &[u8], buffer: &mut [u8]) -> Result<Compiled, Refusal> {
-    compile_by(Rules::default(), matrix, buffer)
+/// Writes the netlist of a matrix record, for samples of `sample_width` bits, into the first bytes of `buffer`.
+pub fn compile(matrix: &[u8], sample_width: u8, buffer: &mut [u8]) -> Result<Compiled, Refusal> {
+    compile_by(Rules::default(), matrix, sample_width, buffer)
 }
 
 /// Compile by rules of which some were in force before. For tests and the benchmark alone.
-pub fn compile_by(rules: Rules, matrix: &[u8], buffer: &mut [u8]) -> Result<Compiled, Refusal> {
+pub fn compile_by(
+    rules: Rules,
+    matrix: &[u8],
+    sample_width: u8,
+    buffer: &mut [u8],
+) -> Result<Compiled, Refusal> {
+    let samples = Samples::of_width(sample_width).ok_or(Refusal {
+        number: 20,
+        place: 0,
+    })?;
     let matrix = Matrix::of_record(matrix)?;
     let plain = plain_count(&Rows::of_matrix(&matrix), matrix.m);
     let elimination = Elimination::of_matrix(&matrix, rules.order);
     let board = Board::of_elimination(&elimination, rules, matrix.m, matrix.n);
-    require(buffer.len() >= size(&board), 6, 0)?;
+    require(buffer.len() >= size(&board, samples), 6, 0)?;
 
     let mut writer = Writer { buffer, place: 0 };
-    let depth = writer.netlist(&board);
+    let depth = writer.netlist(&board, samples);
     Ok(Compiled {
         written: writer.place,
         operations: board.operations.len() as u16,
@@ -63,8 +73,9 @@ fn plain_count(rows: &Rows, m: usize) -> u16 {
 }
 
 /// The bytes of a netlist: head, operations, outputs, totals.
-fn size(board: &Board) -> usize {
-    8 + 12 * board.operations.len() + 9 * board.outputs.len() + 8
+fn size(board: &Board, samples: Samples) -> usize {
+    let head = if samples.said().is_none() { 8 } else { 9 };
+    head + 12 * board.operations.len() + 9 * board.outputs.len() + 8
 }
 
 /// Writes record by record.
@@ -90,21 +101,17 @@ impl Writer<'_> {
     }
 
     /// Writes the whole netlist and returns its depth.
-    fn netlist(&mut self, board: &Board) -> u16 {
+    fn netlist(&mut self, board: &Board, samples: Samples) -> u16 {
         let operations = board.operations.len();
-        let mut entries = Entries::inputs(board.n, operations);
+        let mut entries = Entries::inputs(board.n, operations, samples);
 
-        self.number(8);
-        self.number(2);
-        self.bytes(&[board.outputs.len() as u8, board.n as u8]);
-        self.number(operations as u16);
-
+        self.head(board, samples);
         for operation in &board.operations {
             let width = entries.append(operation);
             self.operation(operation, width as u8);
         }
         for output in &board.outputs {
-            let width = entries.output(output).width();
+            let (_, width) = entries.output(output);
             self.output(output, width as u8);
         }
 
@@ -113,6 +120,19 @@ impl Writer<'_> {
         self.number(operations as u16);
         self.number(entries.depth);
         entries.depth
+    }
+
+    /// Kind 2, or kind 6, which has the samples' width behind the rest.
+    fn head(&mut self, board: &Board, samples: Samples) {
+        let said = samples.said();
+        let (length, kind) = if said.is_none() { (8, 2) } else { (9, 6) };
+        self.number(length);
+        self.number(kind);
+        self.bytes(&[board.outputs.len() as u8, board.n as u8]);
+        self.number(board.operations.len() as u16);
+        if let Some(width) = said {
+            self.bytes(&[width]);
+        }
     }
 
     fn operation(&mut self, operation: &Operation, width: u8) {

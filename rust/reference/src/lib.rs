@@ -18,6 +18,7 @@ mod read;
 mod record;
 mod refusal;
 mod run;
+mod samples;
 mod sums;
 mod width;
 
@@ -26,7 +27,7 @@ pub use compile::{compile, compile_by, Compiled, Rules};
 pub use elimination::{Divisor, Order};
 pub use generator::generate;
 pub use market::read_matrix_market;
-pub use read::{read, Netlist};
+pub use read::{read, sample_width, Netlist};
 pub use record::{step, Record};
 pub use refusal::{returned, Refusal};
 pub use run::run;

@@ -4,6 +4,7 @@ use crate::board::{Board, Operand, Operation, Output, MOST_OPERATIONS, MOST_SHIF
 use crate::matrix::is_size;
 use crate::record::{step, two_bytes, PREFIX};
 use crate::refusal::{require, Refusal};
+use crate::samples::Samples;
 use crate::width::{Entries, Form, MOST_WIDTH};
 
 /// What an accepted read returns.
@@ -20,9 +21,15 @@ pub fn read(netlist: &[u8]) -> Result<Netlist, Refusal> {
     Contents::of_netlist(netlist).map(|contents| contents.netlist)
 }
 
+/// Reads a netlist, and returns the width of the samples that it takes.
+pub fn sample_width(netlist: &[u8]) -> Result<u8, Refusal> {
+    Contents::of_netlist(netlist).map(|contents| contents.samples.width())
+}
+
 /// All that a netlist's bytes hold.
 pub(crate) struct Contents {
     pub netlist: Netlist,
+    pub samples: Samples,
     pub board: Board,
     /// The coefficients of each output.
     pub forms: Vec<Form>,
@@ -32,8 +39,13 @@ impl Contents {
     /// Reads record by record. Refusals 7 to 12.
     pub fn of_netlist(bytes: &[u8]) -> Result<Self, Refusal> {
         let mut reader = Reader { bytes, place: 0 };
-        let (m, n, count) = reader.head()?;
-        let mut entries = Entries::inputs(n, count);
+        let Head {
+            m,
+            n,
+            count,
+            samples,
+        } = reader.head()?;
+        let mut entries = Entries::inputs(n, count, samples);
         let mut board = Board {
             n,
             operations: Vec::with_capacity(count),
@@ -56,10 +68,20 @@ impl Contents {
                 operations: count as u16,
                 depth: entries.depth,
             },
+            samples,
             board,
             forms,
         })
     }
+}
+
+/// What a head says.
+struct Head {
+    m: usize,
+    n: usize,
+    /// The number of operations.
+    count: usize,
+    samples: Samples,
 }
 
 struct Reader<'a> {
@@ -68,29 +90,37 @@ struct Reader<'a> {
 }
 
 impl<'a> Reader<'a> {
-    /// The next record's start and payload, which is to have this kind and length. Refusals 7 and 8.
-    fn record(&mut self, kind: u16, length: usize) -> Result<(usize, &'a [u8]), Refusal> {
+    /// The next record's start and payload, which is to have one of these kinds, each with its length. Refusals 7 and 8.
+    fn record(&mut self, expected: &[(u16, usize)]) -> Result<(usize, &'a [u8]), Refusal> {
         let place = self.place;
         let record = step(self.bytes, place)?;
-        let expected = record.kind == kind && record.payload.len() == length - PREFIX;
-        require(expected, 8, place)?;
+        let found = (record.kind, PREFIX + record.payload.len());
+        require(expected.contains(&found), 8, place)?;
         self.place = record.next;
         Ok((place, record.payload))
     }
 
-    /// m, n and the number of operations. m and n are 0 only together, and only with no operations.
-    fn head(&mut self) -> Result<(usize, usize, usize), Refusal> {
-        let (place, payload) = self.record(2, 8)?;
+    /// m and n are 0 only together, and only with no operations. Of the two kinds the longer one says a width.
+    fn head(&mut self) -> Result<Head, Refusal> {
+        let (place, payload) = self.record(&[(2, 8), (6, 9)])?;
         let (m, n) = (usize::from(payload[0]), usize::from(payload[1]));
-        let operations = usize::from(two_bytes(payload, 2));
-        let some_rows = is_size(m) && is_size(n) && operations <= MOST_OPERATIONS;
-        let no_rows = (m, n, operations) == (0, 0, 0);
+        let count = usize::from(two_bytes(payload, 2));
+        let some_rows = is_size(m) && is_size(n) && count <= MOST_OPERATIONS;
+        let no_rows = (m, n, count) == (0, 0, 0);
         require(some_rows || no_rows, 9, place)?;
-        Ok((m, n, operations))
+        match Samples::of_head(payload.get(4).copied()) {
+            None => Err(Refusal { number: 9, place }),
+            Some(samples) => Ok(Head {
+                m,
+                n,
+                count,
+                samples,
+            }),
+        }
     }
 
     fn operation(&mut self, entries: &mut Entries) -> Result<Operation, Refusal> {
-        let (place, payload) = self.record(3, 12)?;
+        let (place, payload) = self.record(&[(3, 12)])?;
         let operation = Operation {
             subtract: payload[0] == 1,
             a: operand(payload, 1),
@@ -104,7 +134,7 @@ impl<'a> Reader<'a> {
     }
 
     fn output(&mut self, entries: &Entries) -> Result<(Output, Form), Refusal> {
-        let (place, payload) = self.record(4, 9)?;
+        let (place, payload) = self.record(&[(4, 9)])?;
         let operand = operand(payload, 1);
         let output = match payload[0] {
             2 => Output::Zero,
@@ -118,13 +148,13 @@ impl<'a> Reader<'a> {
             Output::Entry { .. } => payload[0] <= 1 && is_operand(operand, entries),
         };
         require(in_range, 9, place)?;
-        let form = entries.output(&output);
-        require_width(form.width(), payload[4], place)?;
+        let (form, width) = entries.output(&output);
+        require_width(width, payload[4], place)?;
         Ok((output, form))
     }
 
     fn totals(&mut self, operations: usize, depth: u16) -> Result<(), Refusal> {
-        let (place, payload) = self.record(5, 8)?;
+        let (place, payload) = self.record(&[(5, 8)])?;
         let same =
             usize::from(two_bytes(payload, 0)) == operations && two_bytes(payload, 2) == depth;
         require(same, 11, place)?;

@@ -5,10 +5,14 @@ use crate::read::Contents;
 use crate::refusal::{require, Refusal};
 
 /// Runs a netlist on n samples and fills the m outputs.
-pub fn run(netlist: &[u8], samples: &[i16], outputs: &mut [i64]) -> Result<(), Refusal> {
-    let Contents { board, .. } = Contents::of_netlist(netlist)?;
+pub fn run(netlist: &[u8], samples: &[i32], outputs: &mut [i64]) -> Result<(), Refusal> {
+    let contents = Contents::of_netlist(netlist)?;
+    let board = &contents.board;
     require(samples.len() == board.n, 15, 0)?;
     require(outputs.len() == board.outputs.len(), 16, 0)?;
+    for (index, &sample) in samples.iter().enumerate() {
+        require(contents.samples.contain(sample), 21, index)?;
+    }
 
     let values = board.values(samples);
     for (value, output) in outputs.iter_mut().zip(&board.outputs) {
@@ -29,7 +33,7 @@ pub fn run(netlist: &[u8], samples: &[i16], outputs: &mut [i64]) -> Result<(), R
 
 impl Board {
     /// The whole numbers that the board machine holds at the end.
-    fn values(&self, samples: &[i16]) -> Vec<i64> {
+    fn values(&self, samples: &[i32]) -> Vec<i64> {
         let mut values = Vec::with_capacity(self.n + self.operations.len());
         values.extend(samples.iter().copied().map(i64::from));
         for operation in &self.operations {
@@ -40,7 +44,7 @@ impl Board {
     }
 }
 
-/// An entry's value times 2^shift. Widths up to 40 keep it within 64 bits.
+/// An entry's value times 2^shift. Widths up to 44 keep it within 64 bits.
 fn shifted(values: &[i64], operand: Operand) -> i64 {
     values[usize::from(operand.symbol)] << operand.shift
 }

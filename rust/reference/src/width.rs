@@ -2,9 +2,10 @@
 
 use crate::board::{Operand, Operation, Output};
 use crate::matrix::MOST;
+use crate::samples::Samples;
 
 /// The largest width that a netlist may record.
-pub(crate) const MOST_WIDTH: u32 = 40;
+pub(crate) const MOST_WIDTH: u32 = 44;
 
 /// The coefficients of an entry or output: it is the sum over the columns of coefficient times sample.
 #[derive(Clone, Copy, Debug, Default, PartialEq, Eq)]
@@ -32,12 +33,12 @@ impl Form {
         self
     }
 
-    /// The smallest width that holds every value, over all samples from −32,768 to 32,767.
-    pub fn width(&self) -> u32 {
+    /// The smallest width that holds every value, over all samples.
+    pub fn width(&self, samples: Samples) -> u32 {
         let positive: i64 = self.0.iter().map(|&c| c.max(0)).sum();
         let negative: i64 = self.0.iter().map(|&c| c.max(0) - c).sum();
-        let highest = positive * 32_767 + negative * 32_768;
-        let lowest = -(positive * 32_768 + negative * 32_767);
+        let highest = positive * samples.highest() - negative * samples.lowest();
+        let lowest = positive * samples.lowest() - negative * samples.highest();
         bits(highest).max(bits(lowest))
     }
 }
@@ -50,19 +51,24 @@ fn bits(value: i64) -> u32 {
 
 /// Form and depth of the inputs and of the operations so far.
 ///
-/// Widths up to 40 keep the forms small: a coefficient is then below 2^25, and no sum comes near 64 bits.
+/// Widths up to 44 keep the forms small: over samples of 8 bits or more a coefficient is then at most 2^36, and no sum comes near 64 bits.
 pub(crate) struct Entries {
     entries: Vec<(Form, u16)>,
+    samples: Samples,
     /// The largest depth.
     pub depth: u16,
 }
 
 impl Entries {
     /// The n inputs, with room for `operations` more entries.
-    pub fn inputs(n: usize, operations: usize) -> Self {
+    pub fn inputs(n: usize, operations: usize, samples: Samples) -> Self {
         let mut entries = Vec::with_capacity(n + operations);
         entries.extend((0..n).map(|column| (Form::input(column), 0)));
-        Entries { entries, depth: 0 }
+        Entries {
+            entries,
+            samples,
+            depth: 0,
+        }
     }
 
     pub fn count(&self) -> usize {
@@ -82,10 +88,16 @@ impl Entries {
         let depth = 1 + depth_a.max(depth_b);
         self.entries.push((form, depth));
         self.depth = self.depth.max(depth);
-        form.width()
+        form.width(self.samples)
     }
 
-    pub fn output(&self, output: &Output) -> Form {
+    /// An output's coefficients and its width.
+    pub fn output(&self, output: &Output) -> (Form, u32) {
+        let form = self.output_form(output);
+        (form, form.width(self.samples))
+    }
+
+    fn output_form(&self, output: &Output) -> Form {
         match *output {
             Output::Zero => Form::default(),
             Output::Entry { minus, operand } => {
@@ -104,13 +116,59 @@ impl Entries {
 mod tests {
     use super::*;
 
+    fn of_width(sample_width: u8) -> Samples {
+        Samples::of_width(sample_width).expect("a width of samples")
+    }
+
+    /// Of x0, x0 + x1, −x0, eight times −32,768 and 32,768 summed, and 0.
+    fn marked(sample_width: u8) -> [u32; 6] {
+        let input = Form::input(0);
+        let forms = [
+            input,
+            input.plus(Form::input(1)),
+            input.negated(),
+            Form([-32_768; MOST]),
+            Form([32_768; MOST]),
+            Form::default(),
+        ];
+        forms.map(|form| form.width(of_width(sample_width)))
+    }
+
     #[test]
     fn marked_widths() {
-        assert_eq!(Form::input(0).width(), 16);
-        assert_eq!(Form::input(0).plus(Form::input(1)).width(), 17);
-        assert_eq!(Form::input(0).negated().width(), 17);
-        assert_eq!(Form([-32_768; MOST]).width(), 35);
-        assert_eq!(Form([32_768; MOST]).width(), 34);
-        assert_eq!(Form::default().width(), 1);
+        assert_eq!(marked(8), [8, 9, 9, 27, 26, 1]);
+        assert_eq!(marked(12), [12, 13, 13, 31, 30, 1]);
+        assert_eq!(marked(16), [16, 17, 17, 35, 34, 1]);
+        assert_eq!(marked(20), [20, 21, 21, 39, 38, 1]);
+        assert_eq!(marked(24), [24, 25, 25, 43, 42, 1]);
+    }
+
+    /// The smallest w ≥ 1 with every value between −2^(w−1) and 2^(w−1) − 1, where each sample is at one of its ends: between these a sum
+    /// only lies between its values.
+    fn width_as_defined(form: &Form, samples: Samples) -> u32 {
+        let ends = [samples.lowest(), samples.highest()];
+        let holds = |w: &u32| {
+            (0..1usize << MOST).all(|vector| {
+                let sample = |column| ends[vector >> column & 1];
+                let products = form.0.iter().enumerate().map(|(j, c)| c * sample(j));
+                let (value, end) = (products.sum::<i64>(), 1 << (w - 1));
+                (-end..end).contains(&value)
+            })
+        };
+        (1..64).find(holds).expect("a width")
+    }
+
+    #[test]
+    fn widths_as_defined() {
+        let mut random = cases::Random::new(20_261_121);
+        for sample_width in 8..=24 {
+            for _ in 0..100 {
+                let (bits, spread) = (random.between(1, 16) as u32, random.between(0, 9));
+                let mut coefficient = || i64::from(random.coefficient(bits)) << spread;
+                let form = Form([(); MOST].map(|()| coefficient()));
+                let samples = of_width(sample_width);
+                assert_eq!(form.width(samples), width_as_defined(&form, samples));
+            }
+        }
     }
 }

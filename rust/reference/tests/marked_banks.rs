@@ -1,16 +1,22 @@
 //! Document 01's marked banks and its example.
 
 use cases::Matrix;
-use reference::{check, compile, compile_by, read, run, step};
+use reference::{check, compile, compile_by, read, run, sample_width, step};
 use reference::{Compiled, Netlist, Order, Refusal, Rules};
 
-fn compiled(rows: &[&[i16]]) -> (Compiled, Vec<u8>) {
+/// The answer and the netlist of a matrix for samples of so many bits.
+fn compiled_at(width: u8, rows: &[&[i16]]) -> (Compiled, Vec<u8>) {
     let matrix = Matrix::of_rows(rows);
-    let mut buffer = vec![0xA5; 6136];
-    let compiled = compile(&matrix.record(), &mut buffer).unwrap();
+    let mut buffer = vec![0xA5; 6137];
+    let compiled = compile(&matrix.record(), width, &mut buffer).unwrap();
     buffer.truncate(compiled.written);
     assert_eq!(check(&matrix.record(), &buffer), Ok(()));
+    assert_eq!(sample_width(&buffer), Ok(width));
     (compiled, buffer)
+}
+
+fn compiled(rows: &[&[i16]]) -> (Compiled, Vec<u8>) {
+    compiled_at(16, rows)
 }
 
 /// The widths that a netlist records, in order.
@@ -58,6 +64,19 @@ fn marked_widths() {
     assert_eq!(widths(&eight)[6..], [34, 35]);
     let (_, mixed) = compiled(&[&[-3, 5, 7, -1]]);
     assert_eq!(widths(&mixed), [18, 19, 19, 19, 20, 20, 20]);
+}
+
+/// As at 16 bits, but that every sum has as many bits more or less as the samples.
+#[test]
+fn marked_widths_of_other_samples() {
+    for (width, [sum, last, negated]) in [(8, [9, 26, 27]), (12, [13, 30, 31]), (24, [25, 42, 43])]
+    {
+        let widths_of = |rows| widths(&compiled_at(width, rows).1);
+        assert_eq!(widths_of(&[&[1, 1]]), [sum, sum]);
+        assert_eq!(widths_of(&[&[-1]]), [sum]);
+        assert_eq!(widths_of(&[&[0]]), [1]);
+        assert_eq!(widths_of(&[&[-32_768; 8]])[6..], [last, negated]);
+    }
 }
 
 #[test]
@@ -108,6 +127,88 @@ fn three_minus_three() {
     assert_eq!(run(&netlist, &[1], &mut []), Err(samples));
 }
 
+/// The head says the width, and of 12 bits 4,095 is the most of x0 − x1, and 12,285 of three times that.
+#[test]
+fn three_minus_three_of_twelve_bits() {
+    let (bank, netlist) = compiled_at(12, &[&[3, -3]]);
+    let expected = [
+        &[9, 0, 6, 0, 1, 2, 2, 0, 12][..],
+        &[12, 0, 3, 0, 1, 0, 0, 0, 1, 0, 0, 13],
+        &[12, 0, 3, 0, 1, 2, 0, 2, 2, 0, 0, 15],
+        &[9, 0, 4, 0, 0, 3, 0, 0, 15],
+        &[8, 0, 5, 0, 2, 0, 2, 0],
+    ];
+    assert_eq!(netlist, expected.concat());
+    let (sixteen, _) = compiled(&[&[3, -3]]);
+    let written = 50;
+    assert_eq!(bank, Compiled { written, ..sixteen });
+    let mut outputs = [7];
+    assert_eq!(run(&netlist, &[2_047, -2_048], &mut outputs), Ok(()));
+    assert_eq!(outputs, [12_285]);
+}
+
+fn refused<T>(number: u8, place: usize) -> Result<T, Refusal> {
+    Err(Refusal { number, place })
+}
+
+/// 20 is tested before 1, and so before 6.
+#[test]
+fn refused_widths() {
+    let record = Matrix::of_rows(&[&[3, -3]]).record();
+    for width in (0..8).chain(25..=255) {
+        for matrix in [&record[..], &record[..5], &[]] {
+            let mut buffer = [0xA5; 50];
+            assert_eq!(compile(matrix, width, &mut buffer), refused(20, 0));
+            assert_eq!(buffer, [0xA5; 50]);
+            assert_eq!(compile(matrix, width, &mut []), refused(20, 0));
+        }
+    }
+}
+
+/// A head of kind 2 has samples of 16 bits too; 21 comes after 15 and 16, and the first of two samples is named.
+#[test]
+fn samples_that_do_not_fit() {
+    for width in 8..=24 {
+        let end = 1 << (width - 1);
+        let (_, netlist) = compiled_at(width, &[&[3, -3]]);
+        let run = |samples: &[i32]| {
+            let mut outputs = [7];
+            run(&netlist, samples, &mut outputs).map(|()| outputs[0])
+        };
+        assert_eq!(run(&[end - 1, -end]), Ok(3 * (2 * i64::from(end) - 1)));
+        assert_eq!(run(&[-end, end - 1]), Ok(-3 * (2 * i64::from(end) - 1)));
+        assert_eq!(run(&[end, 0]), refused(21, 0));
+        assert_eq!(run(&[0, end]), refused(21, 1));
+        assert_eq!(run(&[-end - 1, 0]), refused(21, 0));
+        assert_eq!(run(&[0, -end - 1]), refused(21, 1));
+        assert_eq!(run(&[i32::MIN, i32::MAX]), refused(21, 0));
+        assert_eq!(run(&[i32::MIN]), refused(15, 0));
+        let no_outputs = reference::run(&netlist, &[end, end], &mut []);
+        assert_eq!(no_outputs, refused(16, 0));
+    }
+}
+
+/// Of the two kinds of heads each with the other's length, and widths that the longer one may not say.
+#[test]
+fn refused_heads() {
+    let (_, sixteen) = compiled(&[&[3, -3]]);
+    let head = |kind: u8, said: &[u8]| {
+        let start = [8 + said.len() as u8, 0, kind, 0];
+        [&start[..], &sixteen[4..8], said, &sixteen[8..]].concat()
+    };
+    assert_eq!(read(&head(2, &[12])), refused(8, 0));
+    assert_eq!(read(&head(6, &[])), refused(8, 0));
+    assert_eq!(read(&head(7, &[12])), refused(8, 0));
+    for width in (0..8).chain([16]).chain(25..=255) {
+        assert_eq!(read(&head(6, &[width])), refused(9, 0));
+        assert_eq!(sample_width(&head(6, &[width])), refused(9, 0));
+    }
+    for width in (8..16).chain(17..=24) {
+        assert_eq!(read(&head(6, &[width])), refused(10, 9));
+    }
+    assert_eq!(read(&head(2, &[])), read(&sixteen));
+}
+
 /// A head with m, n and operations 0, then totals of 0.
 const NO_ROWS: [u8; 16] = [8, 0, 2, 0, 0, 0, 0, 0, 8, 0, 5, 0, 0, 0, 0, 0];
 
@@ -124,7 +225,7 @@ fn no_bytes() {
         depth: 0,
         negated: 0,
     };
-    assert_eq!(compile(&[], &mut buffer), Ok(counts));
+    assert_eq!(compile(&[], 16, &mut buffer), Ok(counts));
     assert_eq!(buffer[..16], NO_ROWS);
     assert_eq!(buffer[16], 0xA5);
     let read_back = Netlist {
@@ -136,12 +237,26 @@ fn no_bytes() {
     assert_eq!(read(&NO_ROWS), Ok(read_back));
     assert_eq!(check(&[], &NO_ROWS), Ok(()));
     assert_eq!(run(&NO_ROWS, &[], &mut []), Ok(()));
+
+    let (wider, netlist) = compiled_at(24, &[]);
+    assert_eq!(
+        wider,
+        Compiled {
+            written: 17,
+            ..counts
+        }
+    );
+    assert_eq!(
+        netlist,
+        [9, 0, 6, 0, 0, 0, 0, 0, 24, 8, 0, 5, 0, 0, 0, 0, 0]
+    );
 }
 
 #[test]
 fn refusals_beside_no_bytes() {
-    let refused = |number| Err(Refusal { number, place: 0 });
-    assert_eq!(compile(&[], &mut [0; 15]).map(drop), refused(6));
+    let refused = |number| refused(number, 0);
+    assert_eq!(compile(&[], 16, &mut [0; 15]).map(drop), refused(6));
+    assert_eq!(compile(&[], 12, &mut [0; 16]).map(drop), refused(6));
     assert_eq!(run(&NO_ROWS, &[1], &mut [7]), refused(15));
     assert_eq!(run(&NO_ROWS, &[], &mut [7]), refused(16));
 
@@ -178,6 +293,6 @@ fn sums_of_five() {
         ..Rules::default()
     };
     let mut buffer = [0; 6136];
-    compile_by(rules, &Matrix::of_rows(&rows).record(), &mut buffer).unwrap();
+    compile_by(rules, &Matrix::of_rows(&rows).record(), 16, &mut buffer).unwrap();
     assert_eq!(buffer[8..44], [first, deep, shallow].concat());
 }

@@ -2,235 +2,186 @@
 //!
 //!     BANK=path/to/bank.py cargo test --release -p reference --test oracle -- --ignored
 //!
-//! The program prints its answers as text; each call is one process, so the counts are small. Only Matrix Market files are read in
-//! one process, which calls the program's function for them, and are many.
+//! The program's functions are called in one process for each test. COUNT chooses how many cases are made.
 
+use std::env;
 use std::io::{BufRead, BufReader, Write};
-use std::path::PathBuf;
-use std::process::{Child, ChildStdin, ChildStdout, Command, Output, Stdio};
-use std::{env, fs, thread};
+use std::process::{Child, ChildStdin, ChildStdout, Command, Stdio};
 
-use cases::{any_bank, any_matrix, any_netlist, damage, damage_matrix, damaged_market_file};
-use cases::{each, market_file, plain_netlist, Matrix, Met, Random};
-use reference::Refusal;
+use cases::{any_bank, any_matrix, any_netlist, damage, damage_head, damage_matrix};
+use cases::{damaged_market_file, each, market_file, other_heads, plain_netlist};
+use cases::{Matrix, Met, Random};
+use reference::{compile, Refusal};
 
-/// How many of the later requests are in force: the program's first word.
-const REQUESTS: &str = "7";
+/// How many of the later requests are in force: the program's level.
+const REQUESTS: &str = "8";
 
-fn program() -> String {
-    env::var("BANK").expect("BANK is the path of bank.py")
-}
+/// The bytes that suffice for every netlist.
+const ROOM: usize = 6137;
 
-fn bank(words: &[&str], input: &[u8]) -> Output {
-    let mut child = Command::new("python3")
-        .arg(program())
-        .arg(REQUESTS)
-        .args(words)
-        .stdin(Stdio::piped())
-        .stdout(Stdio::piped())
-        .stderr(Stdio::piped())
-        .spawn()
-        .unwrap();
-    child.stdin.take().unwrap().write_all(input).unwrap();
-    child.wait_with_output().unwrap()
-}
-
-fn text(bytes: &[u8]) -> String {
-    String::from_utf8(bytes.to_vec())
-        .unwrap()
-        .trim()
-        .to_string()
-}
-
-fn refused(refusal: Refusal) -> String {
-    format!("refused {} at {}", refusal.number, refusal.place)
-}
-
-/// Compares compile and returns the netlist, if there is one.
-fn compare_compile(met: &mut Met, record: &[u8]) -> Option<Vec<u8>> {
-    let theirs = bank(&["compile"], record);
-    let mut buffer = vec![0; 6136];
-    match reference::compile(record, &mut buffer) {
-        Ok(c) => {
-            met.count(0);
-            buffer.truncate(c.written);
-            assert_eq!(theirs.stdout, buffer);
-            let counts = [
-                c.operations,
-                c.plain,
-                c.divisors,
-                c.replacements,
-                c.depth,
-                c.negated,
-            ];
-            let listed: Vec<String> = counts.iter().map(u16::to_string).collect();
-            let expected = format!("{} {}", c.written, listed.join(" "));
-            assert_eq!(text(&theirs.stderr), expected);
-            Some(buffer)
-        }
-        Err(refusal) => {
-            met.count(refusal.number);
-            assert_eq!(text(&theirs.stderr), refused(refusal));
-            None
-        }
-    }
-}
-
-fn compare_read(met: &mut Met, netlist: &[u8]) {
-    let ours = match reference::read(netlist) {
-        Ok(r) => {
-            met.count(0);
-            format!(
-                "outputs {} inputs {} operations {} depth {}",
-                r.m, r.n, r.operations, r.depth
-            )
-        }
-        Err(refusal) => {
-            met.count(refusal.number);
-            refused(refusal)
-        }
-    };
-    assert_eq!(text(&bank(&["read"], netlist).stdout), ours);
-}
-
-fn compare_check(met: &mut Met, record: &[u8], netlist: &[u8]) {
-    let ours = match reference::check(record, netlist) {
-        Ok(()) => {
-            met.count(0);
-            "accepted".to_string()
-        }
-        Err(refusal) => {
-            met.count(refusal.number);
-            refused(refusal)
-        }
-    };
-    let (matrix, netlist) = (file("matrix", record), file("netlist", netlist));
-    let words = ["check", matrix.to_str().unwrap(), netlist.to_str().unwrap()];
-    assert_eq!(text(&bank(&words, &[]).stdout), ours);
-}
-
-fn compare_run(met: &mut Met, netlist: &[u8], samples: &[i16], m: usize) {
-    let mut outputs = vec![5; m];
-    let ours = match reference::run(netlist, samples, &mut outputs) {
-        Ok(()) => {
-            met.count(0);
-            let listed: Vec<String> = outputs.iter().map(i64::to_string).collect();
-            listed.join(" ")
-        }
-        Err(refusal) => {
-            met.count(refusal.number);
-            refused(refusal)
-        }
-    };
-    let netlist = file("run", netlist);
-    let samples: Vec<String> = samples.iter().map(i16::to_string).collect();
-    let mut words = vec!["run", netlist.to_str().unwrap()];
-    words.extend(samples.iter().map(String::as_str));
-    let theirs = text(&bank(&words, &[]).stdout);
-    let words: Vec<&str> = theirs.split_whitespace().collect();
-    assert_eq!(words.join(" "), ours);
-}
-
-fn compare_generate(met: &mut Met, m: u8, n: u8, seed: u32, room: usize) {
-    let words = format!("generate {m} {n} {seed} {room}");
-    let theirs = bank(&words.split(' ').collect::<Vec<_>>(), &[]);
-    let mut buffer = vec![0; room];
-    match reference::generate(m, n, seed, &mut buffer) {
-        Ok(written) => {
-            met.count(0);
-            assert_eq!(theirs.stdout, buffer[..written]);
-        }
-        Err(refusal) => {
-            met.count(refusal.number);
-            assert_eq!(text(&theirs.stderr), refused(refusal));
-        }
-    }
-}
-
-/// Calls the program's function for Matrix Market files: a line of the buffer's length and the file's bytes goes in, and one of the
-/// record's bytes or of the refusal comes out, bytes in hexadecimal.
-const MARKET: &str = "
+/// A line of a call's name and its arguments goes in, and one of the numbers of its answer or of the refusal comes out. Bytes are
+/// hexadecimal, behind a letter, since there may be none.
+const CALLS: &str = "
 import sys
 from importlib import util
 spec = util.spec_from_file_location('bank', sys.argv[1])
 bank = util.module_from_spec(spec)
 spec.loader.exec_module(bank)
+level = int(sys.argv[2])
+
+def compile(matrix, width, room):
+    compiled = bank.compile(level, matrix, width, room)
+    return 'x' + compiled.netlist.hex(), *compiled.counts(level)
+
+def read(netlist):
+    net = bank.Netlist(level, netlist)
+    return net.m, net.n, net.count, net.depth, net.sample_width
+
+def check(matrix, netlist):
+    return bank.check(level, matrix, netlist) or ()
+
+def run(netlist, outputs, *samples):
+    return bank.run(level, netlist, samples, outputs)
+
+def generate(m, n, seed, room):
+    return 'x' + bank.generate(m, n, seed, room).hex(),
+
+def market(text, room):
+    return 'x' + bank.market(text, room).hex(),
+
+calls = {call.__name__: call for call in (compile, read, check, run, generate, market)}
 for line in sys.stdin:
-    room, text = line.rstrip('\\n').split(' ')
+    name, *words = line.split()
+    arguments = [bytes.fromhex(word[1:]) if word[0] == 'x' else int(word) for word in words]
     try:
-        print(bank.market(bytes.fromhex(text), int(room)).hex(), flush=True)
+        print('accepted', *calls[name](*arguments), flush=True)
     except bank.Refused as refused:
         print(refused.text(), flush=True)
 ";
 
-/// The process in which these files are read.
-struct Market {
+fn bytes(bytes: &[u8]) -> String {
+    let digits = bytes.iter().map(|byte| format!("{byte:02x}"));
+    "x".chars().map(String::from).chain(digits).collect()
+}
+
+/// The process of the second program, and what was met, call by call.
+struct Bank {
     child: Child,
     questions: ChildStdin,
     answers: BufReader<ChildStdout>,
-    met: Met,
+    compile: Met,
+    read: Met,
+    check: Met,
+    run: Met,
+    generate: Met,
+    market: Met,
 }
 
-impl Market {
+impl Bank {
     fn start() -> Self {
+        let program = env::var("BANK").expect("BANK is the path of bank.py");
         let mut child = Command::new("python3")
-            .args(["-c", MARKET, &program()])
+            .args(["-c", CALLS, &program, REQUESTS])
             .stdin(Stdio::piped())
             .stdout(Stdio::piped())
             .spawn()
             .unwrap();
-        let questions = child.stdin.take().unwrap();
-        let answers = BufReader::new(child.stdout.take().unwrap());
-        let met = Met::default();
-        Market {
+        Bank {
+            questions: child.stdin.take().unwrap(),
+            answers: BufReader::new(child.stdout.take().unwrap()),
             child,
-            questions,
-            answers,
-            met,
+            compile: Met::default(),
+            read: Met::default(),
+            check: Met::default(),
+            run: Met::default(),
+            generate: Met::default(),
+            market: Met::default(),
         }
     }
 
-    fn compare(&mut self, file: &[u8], room: usize) {
-        writeln!(self.questions, "{room} {}", hexadecimal(file)).unwrap();
+    /// Asks the program, and compares with what we answer: the words behind `accepted`. Returns the number to count.
+    fn ask(&mut self, question: String, ours: Result<String, Refusal>) -> u8 {
+        writeln!(self.questions, "{question}").unwrap();
         let mut theirs = String::new();
         self.answers.read_line(&mut theirs).unwrap();
-        let mut buffer = vec![0; room];
-        let ours = match reference::read_matrix_market(file, &mut buffer) {
-            Ok(written) => {
-                self.met.count(0);
-                hexadecimal(&buffer[..written])
-            }
-            Err(refusal) => {
-                self.met.count(refusal.number);
-                refused(refusal)
-            }
+        let (number, words) = match ours {
+            Ok(words) => (0, format!("accepted {words}")),
+            Err(Refusal { number, place }) => (number, format!("refused {number} at {place}")),
         };
-        assert_eq!(theirs.trim_end(), ours, "{}", file.escape_ascii());
+        assert_eq!(theirs.trim_end(), words.trim_end(), "{question}");
+        number
     }
 
-    /// Ends the process, and returns what was met.
-    fn end(mut self) -> Met {
+    /// Compares compile and returns the netlist, if there is one.
+    fn compile(&mut self, record: &[u8], width: u8, room: usize) -> Option<Vec<u8>> {
+        let mut buffer = vec![0; room];
+        let ours = compile(record, width, &mut buffer).map(|c| {
+            buffer.truncate(c.written);
+            let counts = [c.operations, c.plain, c.divisors, c.replacements];
+            let listed = counts.map(|count| count.to_string()).join(" ");
+            let netlist = bytes(&buffer);
+            format!("{netlist} {} {listed} {} {}", c.written, c.depth, c.negated)
+        });
+        let netlist = ours.is_ok().then_some(buffer);
+        let number = self.ask(format!("compile {} {width} {room}", bytes(record)), ours);
+        self.compile.count(number);
+        netlist
+    }
+
+    fn read(&mut self, netlist: &[u8]) {
+        let ours = reference::read(netlist).and_then(|r| {
+            let width = reference::sample_width(netlist)?;
+            Ok(format!(
+                "{} {} {} {} {width}",
+                r.m, r.n, r.operations, r.depth
+            ))
+        });
+        let width = reference::sample_width(netlist);
+        assert_eq!(width.err(), ours.clone().err());
+        let number = self.ask(format!("read {}", bytes(netlist)), ours);
+        self.read.count(number);
+    }
+
+    fn check(&mut self, record: &[u8], netlist: &[u8]) {
+        let ours = reference::check(record, netlist).map(|()| String::new());
+        let question = format!("check {} {}", bytes(record), bytes(netlist));
+        let number = self.ask(question, ours);
+        self.check.count(number);
+    }
+
+    fn run(&mut self, netlist: &[u8], samples: &[i32], m: usize) {
+        let mut outputs = vec![5; m];
+        let ours = reference::run(netlist, samples, &mut outputs).map(|()| {
+            let outputs: Vec<String> = outputs.iter().map(i64::to_string).collect();
+            outputs.join(" ")
+        });
+        let samples: Vec<String> = samples.iter().map(i32::to_string).collect();
+        let question = format!("run {} {m} {}", bytes(netlist), samples.join(" "));
+        let number = self.ask(question, ours);
+        self.run.count(number);
+    }
+
+    fn generate(&mut self, m: u8, n: u8, seed: u32, room: usize) {
+        let mut buffer = vec![0; room];
+        let ours = reference::generate(m, n, seed, &mut buffer);
+        let ours = ours.map(|written| bytes(&buffer[..written]));
+        let number = self.ask(format!("generate {m} {n} {seed} {room}"), ours);
+        self.generate.count(number);
+    }
+
+    fn market(&mut self, file: &[u8], room: usize) {
+        let mut buffer = vec![0; room];
+        let ours = reference::read_matrix_market(file, &mut buffer);
+        let ours = ours.map(|written| bytes(&buffer[..written]));
+        let number = self.ask(format!("market {} {room}", bytes(file)), ours);
+        self.market.count(number);
+    }
+
+    fn end(self) {
         drop(self.questions);
-        assert!(self.child.wait().unwrap().success());
-        self.met
+        let mut child = self.child;
+        assert!(child.wait().unwrap().success());
     }
-}
-
-fn hexadecimal(bytes: &[u8]) -> String {
-    bytes.iter().map(|byte| format!("{byte:02x}")).collect()
-}
-
-/// A file of the test that runs in this thread.
-fn file(name: &str, bytes: &[u8]) -> PathBuf {
-    let (process, thread) = (std::process::id(), thread::current().id());
-    let name = format!("reference-oracle-{process}-{thread:?}-{name}");
-    let path = env::temp_dir().join(name);
-    fs::write(&path, bytes).unwrap();
-    path
-}
-
-fn samples(random: &mut Random, count: usize) -> Vec<i16> {
-    (0..count).map(|_| random.sample()).collect()
 }
 
 /// How many cases are made: COUNT chooses.
@@ -238,43 +189,117 @@ fn count() -> u64 {
     env::var("COUNT").map_or(500, |count| count.parse().unwrap())
 }
 
+/// A width for compile: one that samples may have, or in one case of eight any.
+fn any_width(random: &mut Random) -> u8 {
+    match random.between(0, 15) {
+        0 => random.choose(&[0, 7, 25, 255]),
+        1 => random.byte(),
+        _ => random.sample_width(),
+    }
+}
+
+/// The netlist of a bank is compiled, read, checked and run, on buffers, samples and outputs of right numbers and of wrong ones.
+fn compare_bank(bank: &mut Bank, random: &mut Random, matrix: &Matrix, width: u8) -> Vec<u8> {
+    let (record, m, n) = (matrix.record(), matrix.m(), matrix.n());
+    let netlist = bank.compile(&record, width, ROOM).unwrap();
+    let short = netlist.len() - 1;
+    bank.compile(&record, width, short);
+    bank.read(&netlist);
+    bank.check(&record, &netlist);
+    let samples = random.samples(width, n);
+    bank.run(&netlist, &samples, m);
+    let samples = random.near_samples(width, n);
+    bank.run(&netlist, &samples, m);
+    let outputs = random.between(0, 9);
+    bank.run(&netlist, &samples, outputs);
+    netlist
+}
+
 #[test]
 #[ignore = "needs BANK, the path of a second program"]
 fn oracle_agrees() {
-    let (mut compiled, mut read) = (Met::default(), Met::default());
-    let (mut checked, mut run) = (Met::default(), Met::default());
+    let mut bank = Bank::start();
     each(0, count(), |random| {
         let matrix = any_bank(random, 8, 8);
-        let record = matrix.record();
-        let netlist = compare_compile(&mut compiled, &record).unwrap();
-        compare_read(&mut read, &netlist);
-        compare_check(&mut checked, &record, &netlist);
-        let vector = samples(random, matrix.n());
-        compare_run(&mut run, &netlist, &vector, matrix.m());
+        let (record, width) = (matrix.record(), random.sample_width());
+        let netlist = compare_bank(&mut bank, random, &matrix, width);
 
         let other = any_bank(random, 8, 8);
         let bad_record = damage_matrix(random, &record, &other.record());
-        compare_compile(&mut compiled, &bad_record);
-        compare_check(&mut checked, &bad_record, &netlist);
+        let bad_width = any_width(random);
+        bank.compile(&bad_record, bad_width, ROOM);
+        bank.compile(&bad_record, width, ROOM);
+        bank.check(&bad_record, &netlist);
 
+        let (m, n) = (matrix.m(), matrix.n());
         let operations = random.between(0, 60);
-        let any = any_netlist(random, matrix.m(), matrix.n(), operations);
-        let plain = plain_netlist(random, &matrix).unwrap_or_else(|| any.clone());
-        let bad_netlist = damage(random, &netlist, &any);
-        for netlist in [&any, &plain, &bad_netlist] {
-            compare_read(&mut read, netlist);
-            compare_check(&mut checked, &record, netlist);
-            let n = matrix.n();
+        let any = any_netlist(random, width, m, n, operations);
+        let plain = plain_netlist(random, width, &matrix).unwrap_or_else(|| any.clone());
+        let damaged = damage(random, &netlist, &any);
+        let other_head = damage_head(random, &netlist);
+        for netlist in [&any, &plain, &damaged, &other_head] {
+            bank.read(netlist);
+            bank.check(&record, netlist);
             let count = random.between(n.saturating_sub(1), n.max(1));
-            let vector = samples(random, count);
-            compare_run(&mut run, netlist, &vector, matrix.m());
+            let samples = random.near_samples(width, count);
+            bank.run(netlist, &samples, m);
         }
     });
-    compiled.assert_exactly("compile", &[0, 1, 2, 3, 4, 5], 1);
-    read.assert_exactly("read", &[0, 7, 8, 9, 10, 11, 12], 1);
+    let compile_numbers = [0, 1, 2, 3, 4, 5, 6, 20];
+    bank.compile.assert_exactly("compile", &compile_numbers, 1);
+    bank.read
+        .assert_exactly("read", &[0, 7, 8, 9, 10, 11, 12], 1);
     let check_numbers = [0, 1, 2, 3, 4, 5, 7, 8, 9, 10, 11, 12, 13, 14];
-    checked.assert_exactly("check", &check_numbers, 1);
-    run.assert_exactly("run", &[0, 7, 8, 9, 10, 11, 12, 15], 1);
+    bank.check.assert_exactly("check", &check_numbers, 1);
+    let run_numbers = [0, 7, 8, 9, 10, 11, 12, 15, 16, 21];
+    bank.run.assert_exactly("run", &run_numbers, 1);
+    bank.end();
+}
+
+/// Every width that compile may be given, with a right record, a wrong one and none.
+#[test]
+#[ignore = "needs BANK, the path of a second program"]
+fn oracle_agrees_on_every_width() {
+    let mut bank = Bank::start();
+    let right = Matrix::of_rows(&[&[3, -3], &[-1, 0]]).record();
+    for width in 0..=255 {
+        for record in [&right[..], &right[..5], &[]] {
+            for room in [0, 16, 17, ROOM] {
+                bank.compile(record, width, room);
+            }
+        }
+    }
+    bank.compile.assert_exactly("compile", &[0, 1, 6, 20], 17);
+    bank.end();
+}
+
+/// At each width heads that are damaged in each byte, and each of two samples at the ends and one past them.
+#[test]
+#[ignore = "needs BANK, the path of a second program"]
+fn oracle_agrees_on_heads_and_samples() {
+    let mut bank = Bank::start();
+    let matrices = [
+        Matrix::of_rows(&[]),
+        Matrix::of_rows(&[&[-1]]),
+        Matrix::of_rows(&[&[3, -3], &[257, -257]]),
+    ];
+    for (width, matrix) in (8..=24).flat_map(|w| matrices.iter().map(move |m| (w, m))) {
+        let netlist = bank.compile(&matrix.record(), width, ROOM).unwrap();
+        for other in other_heads(&netlist) {
+            bank.read(&other);
+            bank.check(&matrix.record(), &other);
+            bank.run(&other, &vec![0; matrix.n()], matrix.m());
+        }
+        let end = 1 << (width - 1);
+        let samples = [-end - 1, -end, 0, end - 1, end, i32::MIN, i32::MAX];
+        for (x, y) in samples.iter().flat_map(|&x| samples.map(|y| (x, y))) {
+            bank.run(&netlist, &[x, y][..matrix.n()], matrix.m());
+        }
+    }
+    bank.read.assert_exactly("read", &[0, 7, 8, 9, 10], 17);
+    bank.run
+        .assert_exactly("run", &[0, 7, 8, 9, 10, 15, 21], 17);
+    bank.end();
 }
 
 /// Records with rows, the first bytes of one, and sizes of 0.
@@ -308,48 +333,49 @@ fn netlists_beside_no_rows() -> Vec<Vec<u8>> {
 #[test]
 #[ignore = "needs BANK, the path of a second program"]
 fn oracle_agrees_beside_no_rows() {
-    let (mut compiled, mut read) = (Met::default(), Met::default());
-    let (mut checked, mut run) = (Met::default(), Met::default());
+    let mut bank = Bank::start();
     let (records, mut netlists) = (records_beside_no_bytes(), netlists_beside_no_rows());
     for record in &records {
-        let netlist = compare_compile(&mut compiled, record);
-        compare_check(&mut checked, record, &netlists[16]);
+        let netlist = bank.compile(record, 16, ROOM);
+        bank.check(record, &netlists[16]);
         netlists.extend(netlist);
     }
     for netlist in &netlists {
-        compare_read(&mut read, netlist);
-        compare_check(&mut checked, &[], netlist);
-        compare_check(&mut checked, &records[records.len() - 1], netlist);
+        bank.read(netlist);
+        bank.check(&[], netlist);
+        bank.check(&records[records.len() - 1], netlist);
         let m = reference::read(netlist).map_or(0, |read| usize::from(read.m));
-        compare_run(&mut run, netlist, &[], m);
-        compare_run(&mut run, netlist, &[1], m);
+        bank.run(netlist, &[], m);
+        bank.run(netlist, &[1], m);
     }
-    compiled.assert_exactly("compile", &[0, 1, 2, 4], 1);
-    read.assert_exactly("read", &[0, 7, 8, 9, 11, 12], 1);
+    bank.compile.assert_exactly("compile", &[0, 1, 2, 4], 1);
+    bank.read.assert_exactly("read", &[0, 7, 8, 9, 11, 12], 1);
     let check_numbers = [0, 1, 2, 4, 7, 8, 9, 11, 12, 13];
-    checked.assert_exactly("check", &check_numbers, 1);
-    run.assert_exactly("run", &[0, 7, 8, 9, 11, 12, 15], 1);
+    bank.check.assert_exactly("check", &check_numbers, 1);
+    bank.run.assert_exactly("run", &[0, 7, 8, 9, 11, 12, 15], 1);
+    bank.end();
 }
 
 #[test]
 #[ignore = "needs BANK, the path of a second program"]
 fn oracle_generates_the_same() {
-    let mut generated = Met::default();
+    let mut bank = Bank::start();
     each(0, count(), |random| {
         let (m, n) = (random.between(0, 9) as u8, random.between(0, 9) as u8);
         let seed = random.number() as u32;
         let length = 6 + 2 * usize::from(m) * usize::from(n);
         let room = random.choose(&[0, length - 1, length, length + 1, 134]);
-        compare_generate(&mut generated, m, n, seed, room);
+        bank.generate(m, n, seed, room);
     });
-    generated.assert_exactly("generate", &[0, 4, 6], 1);
+    bank.generate.assert_exactly("generate", &[0, 4, 6], 1);
+    bank.end();
 }
 
 /// 20 files for each case: half of them right, each in a buffer of a length around the record's.
 #[test]
 #[ignore = "needs BANK, the path of a second program"]
 fn oracle_reads_the_same_files() {
-    let mut market = Market::start();
+    let mut bank = Bank::start();
     each(0, 10 * count(), |random| {
         let matrix = any_matrix(random, 8, 8);
         let length = matrix.record().len();
@@ -358,9 +384,11 @@ fn oracle_reads_the_same_files() {
             damaged_market_file(random, &matrix),
         ] {
             let room = random.choose(&[0, length - 1, length, length + 1, 134, 134, 134]);
-            market.compare(&file, room);
+            bank.market(&file, room);
         }
     });
-    let met = market.end();
-    met.assert_exactly("read_matrix_market", &[0, 4, 6, 17, 18, 19], 100);
+    let numbers = [0, 4, 6, 17, 18, 19];
+    bank.market
+        .assert_exactly("read_matrix_market", &numbers, 100);
+    bank.end();
 }
