@@ -38,7 +38,7 @@ fn line(seed: u32) -> String {
 fn operations(seed: u32) -> Result<u16, Refusal> {
     let (mut record, mut netlist) = ([0; MATRIX_ROOM], [0; ROOM]);
     reference::generate(8, 8, seed, &mut record)?;
-    let compiled = reference::compile(&record, &mut netlist)?;
+    let compiled = reference::compile(&record, 16, &mut netlist)?;
     reference::check(&record, &netlist[..compiled.written])?;
     Ok(compiled.operations)
 }

@@ -1,15 +1,23 @@
-//! Cases of read and check: the lengths of record and netlist, then both. Printed are the two answers, one a line.
+//! Cases of read and check: the lengths of record and netlist, then both. Printed are the answers of read, check and sample_width, one a
+//! line.
 
 use cases::{filled, Matrix};
 use reference::returned;
 
 use crate::case::{Call, Case};
-use crate::matrices::{matrices, netlist, no_rows, refused_records, three_minus_three};
+use crate::matrices::{matrices, netlist, netlist_at, no_rows, refused_records, three_minus_three};
 use crate::netlists::{damaged, handmade, Pair};
+use crate::widths::{banks_and_widths, WIDTHS};
 
 pub fn cases() -> Vec<Case> {
-    let pairs = [compiled(), handmade(), damaged(), without_rows()].concat();
-    pairs.iter().map(case).collect()
+    let pairs = [
+        compiled(),
+        handmade(),
+        damaged(),
+        without_rows(),
+        of_other_widths(),
+    ];
+    pairs.concat().iter().map(case).collect()
 }
 
 /// Netlists that compile writes, with their own and with other matrix records.
@@ -51,6 +59,27 @@ fn without_rows() -> Vec<Pair> {
     all
 }
 
+/// Netlists that compile writes for samples of other widths, with their own and with other matrix records: the width decides nothing.
+fn of_other_widths() -> Vec<Pair> {
+    let mut all = Vec::new();
+    for (matrix, width) in banks_and_widths() {
+        let record = matrix.record();
+        let netlist = netlist_at(width, &record);
+        all.push((record, netlist));
+    }
+    let other = Matrix::of_rows(&[&[3, -2]]).record();
+    for width in WIDTHS {
+        let netlist = |matrix: Matrix| netlist_at(width, &matrix.record());
+        all.push((other.clone(), netlist(three_minus_three()))); // 14
+        all.push((other.clone(), netlist(no_rows()))); // 13
+        all.push((no_rows().record(), netlist(three_minus_three()))); // 13
+        for record in refused_records() {
+            all.push((record, netlist(three_minus_three())));
+        }
+    }
+    all
+}
+
 fn case((record, netlist): &Pair) -> Case {
     let answer = reference::read(netlist);
     let (number, place) = returned(&answer);
@@ -61,6 +90,10 @@ fn case((record, netlist): &Pair) -> Case {
     );
     let (number, place) = returned(&reference::check(record, netlist));
     printed.push_str(&format!("check {number} {place}\n"));
+    let answer = reference::sample_width(netlist);
+    let (number, place) = returned(&answer);
+    let width = answer.unwrap_or_default();
+    printed.push_str(&format!("width {number} {place} {width}\n"));
     let bytes = [&record[..], netlist].concat();
     Case::of_call(Call::Check, [record.len(), netlist.len()], &bytes, printed)
 }

@@ -1,4 +1,5 @@
-//! Cases of compile: the lengths of buffer and record, then the record. Printed are the answer and what the buffer then holds.
+//! Cases of compile: the lengths of buffer and record, the sample width (1 byte), then the record. Printed are the answer and what the
+//! buffer then holds.
 
 use std::fmt::Write;
 
@@ -8,17 +9,28 @@ use reference::returned;
 use crate::case::{Call, Case};
 use crate::matrices::{
     banks_with_equal_depths, banks_with_equal_scores, banks_with_negative_terms, matrices, netlist,
-    no_rows, refused_records, three_minus_three, ROOM,
+    netlist_at, no_rows, refused_records, three_minus_three, ROOM,
 };
+use crate::widths::{banks_and_widths, REFUSED_WIDTHS};
 
 /// What a lent buffer holds before.
 const OLD: u8 = 0xA5;
 
 pub fn cases() -> Vec<Case> {
-    inputs()
-        .iter()
-        .map(|(room, record)| case(*room, record))
-        .collect()
+    let sixteen = inputs().into_iter().map(|(room, record)| Input {
+        room,
+        width: 16,
+        record,
+    });
+    let others = inputs_of_other_widths();
+    sixteen.chain(others).map(|input| case(&input)).collect()
+}
+
+/// The length of the buffer, the sample width and a matrix record.
+struct Input {
+    room: usize,
+    width: u8,
+    record: Vec<u8>,
 }
 
 fn banks() -> Vec<Matrix> {
@@ -31,7 +43,7 @@ fn banks() -> Vec<Matrix> {
     .concat()
 }
 
-/// Lengths of the buffer, and matrix records.
+/// Lengths of the buffer, and matrix records, for samples of 16 bits.
 fn inputs() -> Vec<(usize, Vec<u8>)> {
     let mut all = Vec::new();
     for matrix in banks() {
@@ -51,9 +63,48 @@ fn inputs() -> Vec<(usize, Vec<u8>)> {
     all
 }
 
-fn case(room: usize, record: &[u8]) -> Case {
+fn inputs_of_other_widths() -> Vec<Input> {
+    let mut all = Vec::new();
+    let mut push = |room, width, record: &[u8]| {
+        all.push(Input {
+            room,
+            width,
+            record: record.to_vec(),
+        });
+    };
+    for (matrix, width) in banks_and_widths() {
+        let record = matrix.record();
+        push(
+            netlist_at(width, &record).len() + matrix.m(),
+            width,
+            &record,
+        );
+    }
+    let right = three_minus_three().record();
+    for width in REFUSED_WIDTHS {
+        push(64, width, &right); // 20, also before 6 and 1 to 5
+        push(0, width, &right);
+        push(64, width, &[]);
+        for record in refused_records() {
+            push(64, width, &record);
+        }
+    }
+    for record in refused_records() {
+        push(64, 12, &record);
+    }
+    for (room, width) in [(0, 8), (48, 24), (49, 24), (50, 24), (51, 24)] {
+        push(room, width, &right); // 6 in the first three
+    }
+    for (room, width) in [(0, 24), (16, 8), (17, 8), (18, 20)] {
+        push(room, width, &[]); // 6 in the first two
+    }
+    all
+}
+
+fn case(input: &Input) -> Case {
+    let (room, record) = (input.room, &input.record);
     let mut buffer = vec![OLD; room];
-    let answer = reference::compile(record, &mut buffer);
+    let answer = reference::compile(record, input.width, &mut buffer);
     let (number, place) = returned(&answer);
     let compiled = answer.unwrap_or_default();
     let mut printed = format!(
@@ -70,14 +121,15 @@ fn case(room: usize, record: &[u8]) -> Case {
         let _ = write!(printed, "{byte:02x}");
     }
     printed.push('\n');
-    Case::of_call(Call::Compile, [room, record.len()], record, printed)
+    let bytes = [&[input.width], &record[..]].concat();
+    Case::of_call(Call::Compile, [room, record.len()], &bytes, printed)
 }
 
 /// The records that are compiled, once each.
 #[cfg(test)]
 pub fn compiled_records() -> Vec<Vec<u8>> {
     let mut records: Vec<Vec<u8>> = inputs().into_iter().map(|(_, record)| record).collect();
-    records.retain(|record| reference::compile(record, &mut [0; ROOM]).is_ok());
+    records.retain(|record| reference::compile(record, 16, &mut [0; ROOM]).is_ok());
     records.sort();
     records.dedup();
     records
@@ -91,7 +143,7 @@ mod tests {
     /// The answer and the netlist of a record, by some rules.
     fn compiled(rules: Rules, record: &[u8]) -> (Compiled, Vec<u8>) {
         let mut buffer = vec![OLD; ROOM];
-        let answer = compile_by(rules, record, &mut buffer);
+        let answer = compile_by(rules, record, 16, &mut buffer);
         (answer.expect("a right record"), buffer)
     }
 

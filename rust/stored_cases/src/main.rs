@@ -17,6 +17,7 @@ mod run;
 mod scores;
 #[cfg(test)]
 mod ties;
+mod widths;
 
 use std::path::{Path, PathBuf};
 use std::{env, fs};
@@ -25,10 +26,11 @@ use case::Case;
 use matrices::{netlist, three_minus_three, MATRIX_ROOM};
 
 /// The programs by name.
-fn programs() -> [(&'static str, Case); 8] {
+fn programs() -> [(&'static str, Case); 9] {
     [
         ("test_calls", test_calls()),
         ("test_scores", scores::test_scores()),
+        ("list_bank", list_bank()),
         ("run_bank", run_bank()),
         ("compile_bank", compile_bank()),
         ("check_bank", check_bank()),
@@ -49,10 +51,22 @@ fn test_calls() -> Case {
     all
 }
 
+/// Document 01's example, and its text word for word.
+fn list_bank() -> Case {
+    let lines = "inputs 2 outputs 1 operations 2 plain 3 divisors 1 replacements 2 depth 2\n\
+                 2 = 0<<0 - 1<<0 width 17\n\
+                 3 = 2<<2 - 2<<0 width 19\n\
+                 row 0 = 3<<0 width 19\n";
+    Case {
+        stdin: [&[16], &three_minus_three().record()[..]].concat(),
+        stdout: lines.into(),
+    }
+}
+
 fn compile_bank() -> Case {
     let record = include_bytes!("../../../examples/smoothing-and-slope.matrix");
     Case {
-        stdin: record.to_vec(),
+        stdin: [&[16], &record[..]].concat(),
         stdout: netlist(record),
     }
 }
@@ -70,11 +84,11 @@ fn check_bank() -> Case {
 
 fn run_bank() -> Case {
     let netlist = netlist(&three_minus_three().record());
-    let samples: [i16; 2] = [32_767, -32_768];
+    let samples: [i32; 2] = [32_767, -32_768];
     let mut outputs = [0];
     assert_eq!(reference::run(&netlist, &samples, &mut outputs), Ok(()));
     let length = (netlist.len() as u16).to_le_bytes();
-    let samples = samples.map(i16::to_le_bytes).concat();
+    let samples = samples.map(i32::to_le_bytes).concat();
     Case {
         stdin: [&length[..], &netlist, &samples].concat(),
         stdout: format!("{}\n", outputs[0]).into_bytes(),

@@ -25,7 +25,7 @@ const ALONE: [i16; 14] = [
 ];
 
 /// The bytes that suffice for every netlist.
-pub const ROOM: usize = 6136;
+pub const ROOM: usize = 6137;
 
 /// The bytes that suffice for every matrix record: those of 8 by 8.
 pub const MATRIX_ROOM: usize = 134;
@@ -211,10 +211,15 @@ fn records_without_coefficients() -> Vec<Vec<u8>> {
     all
 }
 
-/// The netlist of a matrix record.
+/// The netlist of a matrix record for samples of 16 bits.
 pub fn netlist(record: &[u8]) -> Vec<u8> {
+    netlist_at(16, record)
+}
+
+/// The netlist of a matrix record for samples of so many bits.
+pub fn netlist_at(width: u8, record: &[u8]) -> Vec<u8> {
     let mut buffer = vec![0; ROOM];
-    let compiled = reference::compile(record, &mut buffer).expect("a right record");
+    let compiled = reference::compile(record, width, &mut buffer).expect("a right record");
     buffer.truncate(compiled.written);
     buffer
 }

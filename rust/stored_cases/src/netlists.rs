@@ -1,8 +1,9 @@
 //! Netlists that no compiler writes, and damaged ones.
 
-use cases::Matrix;
+use cases::{other_heads, Matrix};
 
-use crate::matrices::{five_zero_minus_one, netlist, no_rows, three_minus_three};
+use crate::matrices::{five_zero_minus_one, netlist_at, no_rows, three_minus_three};
+use crate::widths::WIDTHS;
 
 /// A matrix record, and a netlist to check against it.
 pub type Pair = (Vec<u8>, Vec<u8>);
@@ -23,6 +24,15 @@ fn record(kind: u8, payload: &[u8]) -> Vec<u8> {
 fn head(m: u8, n: u8, operations: u16) -> Vec<u8> {
     let [low, high] = operations.to_le_bytes();
     record(2, &[m, n, low, high])
+}
+
+/// A head for samples of so many bits, which one of kind 2 does not say.
+fn head_at(sample_width: u8, m: u8, n: u8, operations: u16) -> Vec<u8> {
+    let [low, high] = operations.to_le_bytes();
+    match sample_width {
+        16 => head(m, n, operations),
+        _ => record(6, &[m, n, low, high, sample_width]),
+    }
 }
 
 fn operation(sign: u8, a: Operand, b: Operand, width: u8) -> Vec<u8> {
@@ -48,7 +58,7 @@ pub fn handmade() -> Vec<Pair> {
     [
         other_forms(),
         zero_outputs(),
-        wide_values(),
+        WIDTHS.map(wide_values).concat(),
         long_netlists(),
         small_netlists(),
         sizes_of_zero(),
@@ -108,38 +118,48 @@ fn zero_outputs() -> Vec<Pair> {
     all
 }
 
-/// Widths 40 and 41.
-fn wide_values() -> Vec<Pair> {
-    let sum = || operation(ADD, (0, 15), (0, 15), 32);
-    let one_sum = |outputs: Vec<u8>| pair(&[&[1]], &[head(1, 1, 1), sum(), outputs, totals(1, 1)]);
+/// Widths 44 and 45 of sums and outputs, over samples of s bits. Symbol 1 has 16 bits more than a sample, and symbol 2 has 41 bits, or 40
+/// over samples of 8.
+fn wide_values(s: u8) -> Vec<Pair> {
+    let first = || operation(ADD, (0, 15), (0, 15), s + 16);
+    let shift = (24 - s).min(15);
+    let width = s + 17 + shift;
+    let second = || operation(ADD, (1, shift), (1, shift), width);
+    let netlist = |m, count: u16, records: &[Vec<u8>]| {
+        let mut all = vec![head_at(s, m, 1, count), first(), second()];
+        all.extend_from_slice(records);
+        all.push(totals(count, count));
+        pair(&[&[1]], &all)
+    };
     let mut all = Vec::new();
-    for top in [7, 8] {
-        let twice = operation(ADD, (1, top), (1, top), 33 + top);
-        let last = output(PLUS, (2, 0), 33 + top);
-        all.push(pair(
-            &[&[1]],
-            &[head(1, 1, 2), sum(), twice, last, totals(2, 2)],
-        ));
-        let plus = output(PLUS, (1, top), 32 + top);
-        all.push(one_sum([plus.clone(), output(PLUS, (0, 0), 16)].concat()));
-        all.push(one_sum(plus));
-        all.push(one_sum(output(MINUS, (1, top), 33 + top)));
+    for widest in [44, 45] {
+        let top = widest - width;
+        let twice = operation(ADD, (2, top - 1), (2, top - 1), widest);
+        all.push(netlist(1, 3, &[twice, output(PLUS, (3, 0), widest)]));
+        let plus = || output(PLUS, (2, top), widest);
+        all.push(netlist(2, 2, &[plus(), output(PLUS, (0, 0), s)]));
+        all.push(netlist(1, 2, &[plus()]));
+        all.push(netlist(1, 2, &[output(MINUS, (2, top - 1), widest)]));
+        all.push(netlist(1, 2, &[output(MINUS, (2, top), widest + 1)]));
     }
     all
 }
 
-/// Symbol 511, and one operation too many.
+/// Symbol 511, and one operation too many; the last one is as long as any netlist.
 fn long_netlists() -> Vec<Pair> {
-    let long = |count: u16| {
+    let long = |(count, m, s): (u16, u8, u8)| {
         let zero = |k: u16| operation(SUBTRACT, (7 + k, 0), (7 + k, 0), 1);
-        let mut records = vec![head(1, 8, count)];
+        let mut records = vec![head_at(s, m, 8, count)];
         records.extend((0..count - 1).map(zero));
-        records.push(operation(ADD, (7, 0), (6 + count, 0), 16));
-        records.push(output(PLUS, (7 + count, 0), 16));
+        records.push(operation(ADD, (7, 0), (6 + count, 0), s));
+        records.extend((0..m).map(|_| output(PLUS, (7 + count, 0), s)));
         records.push(totals(count, count));
-        pair(&[&[0, 0, 0, 0, 0, 0, 0, 1]], &records)
+        let row: &[i16] = &[0, 0, 0, 0, 0, 0, 0, 1];
+        pair(&vec![row; m.into()], &records)
     };
-    [503, 504, 505].map(long).to_vec()
+    [(503, 1, 16), (504, 1, 16), (505, 1, 16), (504, 8, 24)]
+        .map(long)
+        .to_vec()
 }
 
 fn small_netlists() -> Vec<Pair> {
@@ -185,12 +205,19 @@ fn sizes_of_zero() -> Vec<Pair> {
     all.iter().map(|records| pair(&[], records)).collect()
 }
 
-/// Every byte of three netlists set to several values, every truncation, bytes left over.
+/// Every byte of five netlists set to several values, every truncation, bytes left over; then other heads.
 pub fn damaged() -> Vec<Pair> {
+    let some = [
+        (three_minus_three(), 16),
+        (five_zero_minus_one(), 16),
+        (no_rows(), 16),
+        (three_minus_three(), 12),
+        (no_rows(), 24),
+    ];
     let mut all = Vec::new();
-    for matrix in [three_minus_three(), five_zero_minus_one(), no_rows()] {
+    for (matrix, width) in some {
         let record = matrix.record();
-        let right = netlist(&record);
+        let right = netlist_at(width, &record);
         let mut push = |netlist: Vec<u8>| all.push((record.clone(), netlist));
         for (place, &old) in right.iter().enumerate() {
             for value in [0, 1, 2, 16, 255, old ^ 1, old.wrapping_add(1)] {
@@ -206,6 +233,26 @@ pub fn damaged() -> Vec<Pair> {
         }
         push([&right[..], &[0]].concat());
         push(right.repeat(2));
+    }
+    all.extend(damaged_heads());
+    all
+}
+
+/// Heads of both kinds damaged in each byte, with rows and without: kinds with the other's length, widths that no head may say, and widths
+/// that are not those of the samples.
+fn damaged_heads() -> Vec<Pair> {
+    let mut all = Vec::new();
+    for (matrix, width) in [
+        (three_minus_three(), 16),
+        (three_minus_three(), 8),
+        (three_minus_three(), 24),
+        (no_rows(), 16),
+        (no_rows(), 20),
+    ] {
+        let record = matrix.record();
+        let right = netlist_at(width, &record);
+        let others = other_heads(&right).into_iter();
+        all.extend(others.map(|netlist| (record.clone(), netlist)));
     }
     all
 }

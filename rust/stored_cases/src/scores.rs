@@ -182,7 +182,7 @@ mod tests {
     fn literal_elimination_gives_the_divisors_of_compile() {
         for record in records() {
             let mut netlist = [0; ROOM];
-            let compiled = reference::compile(&record, &mut netlist).expect("a right record");
+            let compiled = reference::compile(&record, 16, &mut netlist).expect("a right record");
             let literal = literal(&record);
             let expected = divisors(&netlist, compiled.divisors);
             assert_eq!(literal.divisors, expected, "{record:?}");
