@@ -1,5 +1,5 @@
-/* Zaatarloft's calls for C and C++: compile, read, check, run, step, generate and read_matrix_market, as docs/SPECIFICATION.md
- * has them, which is cited as document 01.
+/* Zaatarloft's calls for C and C++: compile, read, sample_width, check, run, step, generate and read_matrix_market, as
+ * docs/SPECIFICATION.md has them, which is cited as document 01.
  * The library is target/staticlib/libzaatarloft.a, for x86-64 Linux; `rt staticlib zaatarloft` proves and builds it.
  *
  * Every call returns its answer as a struct: the refusal's number, 0 where it accepts, its place, then the other numbers, which
@@ -12,6 +12,17 @@
  * A call may be lent NULL where the length is 0, as an empty file, an empty std::vector or malloc(0) may give it; a raw function
  * never.
  * A call keeps no pointer and uses no memory but its stack: a stack of 128 KB was enough for compile, and 48 KB for the others.
+ *
+ * Request A8, samples of 8 to 24 bits: what a host has to change that was written when all had 16.
+ * - zaatarloft_compile has a parameter more, the sample width, behind the matrix. Pass 16: the netlist has the bytes of before.
+ * - Samples are lent to zaatarloft_run as int32_t and no longer as int16_t. One that doesn't fit the netlist's sample width is
+ *   refused, with 21.
+ * - ZAATARLOFT_NETLIST_BYTES is 6137 and was 6136: a buffer whose length is written as a number takes a byte more.
+ * - A table of refusals has two more, 20 and 21; in 10 the limit of widths is 44 and was 40.
+ * - A host that reads netlists itself meets two heads: at 16 bits that of kind 2, 8 bytes long, at other widths one of kind 6,
+ *   9 bytes long, whose last byte is the width; all places behind it are one higher. zaatarloft_sample_width, a new call, says the
+ *   width of either.
+ * The raw functions of compile and run changed in the same way.
  */
 #ifndef ZAATARLOFT_H
 #define ZAATARLOFT_H
@@ -20,7 +31,7 @@
 #include <stdint.h>
 
 /* So many bytes always suffice for a netlist. */
-#define ZAATARLOFT_NETLIST_BYTES 6136
+#define ZAATARLOFT_NETLIST_BYTES 6137
 
 /* So many bytes always suffice for a matrix record, of up to 8 by 8. */
 #define ZAATARLOFT_MATRIX_BYTES 134
@@ -56,7 +67,7 @@ static inline const char *zaatarloft_refusal_words(uint8_t refusal)
                "an output symbol not below n + operations, or a zero output whose symbol is not 0, shift not 0 or "
                "width not 1";
     case 10: /* record's start */
-        return "recorded width is not the width, or the width exceeds 40";
+        return "recorded width is not the width, or the width exceeds 44";
     case 11: /* record's start */
         return "totals differ from the head's count or the depth";
     case 12: /* place after totals */
@@ -75,6 +86,10 @@ static inline const char *zaatarloft_refusal_words(uint8_t refusal)
         return "the Matrix Market file's entries are too few or too many";
     case 19: /* line's start */
         return "one of the first m times n entry lines of the Matrix Market file is not an integer from -32,768 to 32,767";
+    case 20: /* place 0 */
+        return "the sample width for compile is not 8 to 24";
+    case 21: /* place = index of the sample, from 0 */
+        return "lowest index of a sample that doesn't fit the width";
     default:
         return NULL;
     }
@@ -84,17 +99,19 @@ static inline const char *zaatarloft_refusal_words(uint8_t refusal)
  *
  * Each returns the refusal's number and writes all other numbers of its answer through the pointers, also where it refuses. */
 
-uint8_t zaatarloft_raw_compile(const uint8_t *matrix, size_t matrix_length, uint8_t *buffer, size_t buffer_length,
-                               size_t *place, size_t *written, uint16_t *operations, uint16_t *plain, uint16_t *divisors,
-                               uint16_t *replacements, uint16_t *depth, uint16_t *negated);
+uint8_t zaatarloft_raw_compile(const uint8_t *matrix, size_t matrix_length, uint8_t sample_width, uint8_t *buffer,
+                               size_t buffer_length, size_t *place, size_t *written, uint16_t *operations, uint16_t *plain,
+                               uint16_t *divisors, uint16_t *replacements, uint16_t *depth, uint16_t *negated);
 
 uint8_t zaatarloft_raw_read(const uint8_t *netlist, size_t netlist_length, size_t *place, uint8_t *m, uint8_t *n,
                             uint16_t *operations, uint16_t *depth);
 
+uint8_t zaatarloft_raw_sample_width(const uint8_t *netlist, size_t netlist_length, size_t *place, uint8_t *width);
+
 uint8_t zaatarloft_raw_check(const uint8_t *matrix, size_t matrix_length, const uint8_t *netlist, size_t netlist_length,
                              size_t *place);
 
-uint8_t zaatarloft_raw_run(const uint8_t *netlist, size_t netlist_length, const int16_t *samples, size_t samples_length,
+uint8_t zaatarloft_raw_run(const uint8_t *netlist, size_t netlist_length, const int32_t *samples, size_t samples_length,
                            int64_t *outputs, size_t outputs_length, size_t *place);
 
 uint8_t zaatarloft_raw_step(const uint8_t *bytes, size_t bytes_length, size_t at, size_t *place, uint16_t *kind,
@@ -130,14 +147,16 @@ struct zaatarloft_compiled {
     uint16_t negated; /* outputs with sign minus */
 };
 
-/* From a matrix record to its netlist, in the first `written` bytes of the buffer; the bytes behind them, and all where it
- * refuses, stay as they were. No matrix bytes mean a bank of no rows and no inputs. Refusals 1 to 6. */
-static inline struct zaatarloft_compiled zaatarloft_compile(const uint8_t *matrix, size_t matrix_length, uint8_t *buffer,
-                                                            size_t buffer_length)
+/* From a matrix record and the width of a detector's samples, 8 to 24 bits, to the netlist, in the first `written` bytes of the
+ * buffer; the bytes behind them, and all where it refuses, stay as they were. No matrix bytes mean a bank of no rows and no inputs.
+ * Refusals 20, then 1 to 6. The width is a number of 8 bits: a larger one that a caller holds has to be tested before it is cut to
+ * these. */
+static inline struct zaatarloft_compiled zaatarloft_compile(const uint8_t *matrix, size_t matrix_length, uint8_t sample_width,
+                                                            uint8_t *buffer, size_t buffer_length)
 {
     uint8_t none = 0;
     struct zaatarloft_compiled answer;
-    answer.refusal = zaatarloft_raw_compile(zaatarloft_lent(matrix, matrix_length), matrix_length,
+    answer.refusal = zaatarloft_raw_compile(zaatarloft_lent(matrix, matrix_length), matrix_length, sample_width,
                                             buffer_length == 0 ? &none : buffer, buffer_length, &answer.place,
                                             &answer.written, &answer.operations, &answer.plain, &answer.divisors,
                                             &answer.replacements, &answer.depth, &answer.negated);
@@ -162,6 +181,21 @@ static inline struct zaatarloft_netlist zaatarloft_read(const uint8_t *netlist, 
     return answer;
 }
 
+struct zaatarloft_width {
+    uint8_t refusal;
+    size_t place;
+    uint8_t width;
+};
+
+/* The width of the samples that a netlist takes, 8 to 24 bits, by its head. Refusals 7 to 12, as read. */
+static inline struct zaatarloft_width zaatarloft_sample_width(const uint8_t *netlist, size_t netlist_length)
+{
+    struct zaatarloft_width answer;
+    answer.refusal = zaatarloft_raw_sample_width(zaatarloft_lent(netlist, netlist_length), netlist_length, &answer.place,
+                                                 &answer.width);
+    return answer;
+}
+
 struct zaatarloft_checked {
     uint8_t refusal;
     size_t place;
@@ -182,11 +216,12 @@ struct zaatarloft_ran {
     size_t place;
 };
 
-/* Runs a netlist on n samples and fills m outputs, which stay as they were where it refuses. Refusals 7 to 12, 15, 16. */
-static inline struct zaatarloft_ran zaatarloft_run(const uint8_t *netlist, size_t netlist_length, const int16_t *samples,
+/* Runs a netlist on n samples, each of which fits the netlist's sample width, and fills m outputs, which stay as they were where it
+ * refuses. Refusals 7 to 12, 15, 16, 21. */
+static inline struct zaatarloft_ran zaatarloft_run(const uint8_t *netlist, size_t netlist_length, const int32_t *samples,
                                                    size_t samples_length, int64_t *outputs, size_t outputs_length)
 {
-    int16_t no_sample = 0;
+    int32_t no_sample = 0;
     int64_t no_output = 0;
     struct zaatarloft_ran answer;
     answer.refusal = zaatarloft_raw_run(zaatarloft_lent(netlist, netlist_length), netlist_length,

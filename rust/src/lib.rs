@@ -6,8 +6,8 @@
 //!
 //! ```
 //! let matrix = [0x0A, 0, 1, 0, 1, 2, 3, 0, 0xFD, 0xFF]; // row 3, −3
-//! let mut buffer = [0; 6136];
-//! let compiled = zaatarloft::compile(&matrix, &mut buffer)?;
+//! let mut buffer = [0; 6137];
+//! let compiled = zaatarloft::compile(&matrix, 16, &mut buffer)?; // for samples of 16 bits
 //! assert_eq!((compiled.operations, compiled.depth, compiled.negated), (2, 2, 0));
 //! let mut outputs = [0];
 //! zaatarloft::run(&buffer[..compiled.written], &[32_767, -32_768], &mut outputs)?;
@@ -23,9 +23,9 @@ use std::fmt;
 /// Why a record was declined: document 01's number and place.
 #[derive(Debug, Clone, Copy, PartialEq, Eq)]
 pub struct Refusal {
-    /// From 1 to 19.
+    /// From 1 to 21.
     pub number: u8,
-    /// A place in the bytes lent; a row for 14.
+    /// A place in the bytes lent; a row for 14, and a sample's index for 21.
     pub place: usize,
 }
 
@@ -100,17 +100,17 @@ fn accepted<T>(number: u8, place: usize, answer: T) -> Result<T, Refusal> {
     }
 }
 
-/// From a matrix record to its netlist, at the start of the buffer; 6,136 bytes always suffice. Refusals 1 to 6, which leave
-/// the buffer as it was. No bytes are a bank of no rows and no inputs:
+/// From a matrix record and the width of a detector's samples, 8 to 24 bits, to the netlist, at the start of the buffer; 6,137 bytes
+/// always suffice. Refusals 20, then 1 to 6, which leave the buffer as it was. No bytes are a bank of no rows and no inputs:
 ///
 /// ```
 /// let mut buffer = [0; 16];
-/// assert_eq!(zaatarloft::compile(&[], &mut buffer)?.written, 16);
+/// assert_eq!(zaatarloft::compile(&[], 16, &mut buffer)?.written, 16);
 /// zaatarloft::check(&[], &buffer)?;
 /// zaatarloft::run(&buffer, &[], &mut [])?;
 /// # Ok::<(), zaatarloft::Refusal>(())
 /// ```
-pub fn compile(matrix: &[u8], buffer: &mut [u8]) -> Result<Compiled, Refusal> {
+pub fn compile(matrix: &[u8], sample_width: u8, buffer: &mut [u8]) -> Result<Compiled, Refusal> {
     let mut place = 0;
     let mut compiled = Compiled {
         written: 0,
@@ -127,6 +127,7 @@ pub fn compile(matrix: &[u8], buffer: &mut [u8]) -> Result<Compiled, Refusal> {
         raw::zaatarloft_raw_compile(
             matrix.as_ptr(),
             matrix.len(),
+            sample_width,
             buffer.as_mut_ptr(),
             buffer.len(),
             &mut place,
@@ -166,6 +167,31 @@ pub fn read(netlist: &[u8]) -> Result<Netlist, Refusal> {
     accepted(number, place, read)
 }
 
+/// The width of the samples that a netlist takes. Refusals 7 to 12, as `read`.
+///
+/// ```
+/// let matrix = [0x0A, 0, 1, 0, 1, 2, 3, 0, 0xFD, 0xFF]; // row 3, −3
+/// let mut buffer = [0; 6137];
+/// let written = zaatarloft::compile(&matrix, 12, &mut buffer)?.written;
+/// let netlist = &buffer[..written];
+/// assert_eq!(zaatarloft::sample_width(netlist)?, 12);
+/// let mut outputs = [0];
+/// zaatarloft::run(netlist, &[2_047, -2_048], &mut outputs)?;
+/// assert_eq!(outputs, [12_285]);
+/// let refusal = zaatarloft::run(netlist, &[2_047, 2_048], &mut outputs).unwrap_err();
+/// assert_eq!((refusal.number, refusal.place), (21, 1));
+/// # Ok::<(), zaatarloft::Refusal>(())
+/// ```
+pub fn sample_width(netlist: &[u8]) -> Result<u8, Refusal> {
+    let mut place = 0;
+    let mut width = 0;
+    // SAFETY: the slice is valid for its length, and both references are to distinct numbers.
+    let number = unsafe {
+        raw::zaatarloft_raw_sample_width(netlist.as_ptr(), netlist.len(), &mut place, &mut width)
+    };
+    accepted(number, place, width)
+}
+
 /// Accepts a netlist that computes the matrix, whoever made it. Refusals 1 to 5, 7 to 12, 13 and 14.
 pub fn check(matrix: &[u8], netlist: &[u8]) -> Result<(), Refusal> {
     let mut place = 0;
@@ -182,8 +208,9 @@ pub fn check(matrix: &[u8], netlist: &[u8]) -> Result<(), Refusal> {
     accepted(number, place, ())
 }
 
-/// Runs a netlist on n samples and fills m outputs. Refusals 7 to 12, 15 and 16, which leave the outputs as they were.
-pub fn run(netlist: &[u8], samples: &[i16], outputs: &mut [i64]) -> Result<(), Refusal> {
+/// Runs a netlist on n samples, each of which fits the netlist's sample width, and fills m outputs. Refusals 7 to 12, 15, 16 and 21, which
+/// leave the outputs as they were.
+pub fn run(netlist: &[u8], samples: &[i32], outputs: &mut [i64]) -> Result<(), Refusal> {
     let mut place = 0;
     // SAFETY: all three slices are valid for their lengths, the outputs for writes, and none of them overlaps another.
     let number = unsafe {

@@ -6,6 +6,7 @@ extern "C" {
     pub fn zaatarloft_raw_compile(
         matrix: *const u8,
         matrix_length: usize,
+        sample_width: u8,
         buffer: *mut u8,
         buffer_length: usize,
         place: *mut usize,
@@ -30,6 +31,14 @@ extern "C" {
     ) -> u8;
 }
 extern "C" {
+    pub fn zaatarloft_raw_sample_width(
+        netlist: *const u8,
+        netlist_length: usize,
+        place: *mut usize,
+        width: *mut u8,
+    ) -> u8;
+}
+extern "C" {
     pub fn zaatarloft_raw_check(
         matrix: *const u8,
         matrix_length: usize,
@@ -42,7 +51,7 @@ extern "C" {
     pub fn zaatarloft_raw_run(
         netlist: *const u8,
         netlist_length: usize,
-        samples: *const i16,
+        samples: *const i32,
         samples_length: usize,
         outputs: *mut i64,
         outputs_length: usize,

@@ -86,17 +86,17 @@ fn refusals() -> Vec<(u8, &'static str, &'static str)> {
 #[test]
 fn refusals_in_rust() {
     let numbers: Vec<u8> = refusals().iter().map(|refusal| refusal.0).collect();
-    assert_eq!(numbers, (1..=19).collect::<Vec<u8>>());
+    assert_eq!(numbers, (1..=21).collect::<Vec<u8>>());
     for (number, _, words) in refusals() {
         assert_eq!(Refusal { number, place: 0 }.words(), words);
     }
     let other = Refusal {
-        number: 20,
+        number: 22,
         place: 5,
     };
     assert_eq!(
         other.to_string(),
-        "refused 20 at 5: no refusal of document 01"
+        "refused 22 at 5: no refusal of document 01"
     );
 }
 

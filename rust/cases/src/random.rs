@@ -55,6 +55,15 @@ impl Random {
         }
     }
 
+    /// A width for compile: one that samples may have, or in one case of eight any.
+    pub fn any_width(&mut self) -> u8 {
+        match self.between(0, 15) {
+            0 => self.choose(&[0, 7, 25, 255]),
+            1 => self.byte(),
+            _ => self.sample_width(),
+        }
+    }
+
     /// A sample of so many bits: any, or one of the ends.
     pub fn sample(&mut self, width: u8) -> i32 {
         let above = 32 - u32::from(width);

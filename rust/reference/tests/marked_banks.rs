@@ -292,7 +292,7 @@ fn sums_of_five() {
         order,
         ..Rules::default()
     };
-    let mut buffer = [0; 6136];
+    let mut buffer = [0; 6137];
     compile_by(rules, &Matrix::of_rows(&rows).record(), 16, &mut buffer).unwrap();
     assert_eq!(buffer[8..44], [first, deep, shallow].concat());
 }

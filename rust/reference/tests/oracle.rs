@@ -189,15 +189,6 @@ fn count() -> u64 {
     env::var("COUNT").map_or(500, |count| count.parse().unwrap())
 }
 
-/// A width for compile: one that samples may have, or in one case of eight any.
-fn any_width(random: &mut Random) -> u8 {
-    match random.between(0, 15) {
-        0 => random.choose(&[0, 7, 25, 255]),
-        1 => random.byte(),
-        _ => random.sample_width(),
-    }
-}
-
 /// The netlist of a bank is compiled, read, checked and run, on buffers, samples and outputs of right numbers and of wrong ones.
 fn compare_bank(bank: &mut Bank, random: &mut Random, matrix: &Matrix, width: u8) -> Vec<u8> {
     let (record, m, n) = (matrix.record(), matrix.m(), matrix.n());
@@ -226,8 +217,7 @@ fn oracle_agrees() {
 
         let other = any_bank(random, 8, 8);
         let bad_record = damage_matrix(random, &record, &other.record());
-        let bad_width = any_width(random);
-        bank.compile(&bad_record, bad_width, ROOM);
+        bank.compile(&bad_record, random.any_width(), ROOM);
         bank.compile(&bad_record, width, ROOM);
         bank.check(&bad_record, &netlist);
 

@@ -17,7 +17,7 @@ fn netlist(matrix: &Matrix) -> Netlist {
 }
 
 fn netlist_by(rules: Rules, matrix: &Matrix) -> Netlist {
-    let mut buffer = vec![0; 6136];
+    let mut buffer = vec![0; 6137];
     let compiled = compile_by(rules, &matrix.record(), 16, &mut buffer).unwrap();
     buffer.truncate(compiled.written);
     assert_eq!(reference::check(&matrix.record(), &buffer), Ok(()));

@@ -12,6 +12,7 @@ const MARGIN: usize = 32;
 pub struct Both {
     compile: Met,
     read: Met,
+    sample_width: Met,
     check: Met,
     run: Met,
     step: Met,
@@ -55,10 +56,10 @@ where
 }
 
 impl Both {
-    /// Compiles into a buffer with these old bytes, and returns the netlist where it was accepted.
-    pub fn compile(&mut self, matrix: &[u8], old: &[u8]) -> Option<Vec<u8>> {
-        let (answer, buffer) = lend(old, 0x5A, |lent| zaatarloft::compile(matrix, lent));
-        let (expected, contents) = lend(old, 0x5A, |lent| reference::compile(matrix, lent));
+    /// Compiles for samples of so many bits into a buffer with these old bytes, and returns the netlist where it was accepted.
+    pub fn compile(&mut self, matrix: &[u8], width: u8, old: &[u8]) -> Option<Vec<u8>> {
+        let (answer, buffer) = lend(old, 0x5A, |lent| zaatarloft::compile(matrix, width, lent));
+        let (expected, contents) = lend(old, 0x5A, |lent| reference::compile(matrix, width, lent));
         let expected = independent(expected);
         let answer = verified(answer).map(|c| reference::Compiled {
             written: c.written,
@@ -69,8 +70,8 @@ impl Both {
             depth: c.depth,
             negated: c.negated,
         });
-        assert_eq!(answer, expected, "compile of {matrix:?}");
-        assert_eq!(buffer, contents, "buffer after compile of {matrix:?}");
+        assert_eq!(answer, expected, "compile of {matrix:?}, {width} bits");
+        assert_eq!(buffer, contents, "buffer of {matrix:?}, {width} bits");
         self.compile.count(number(&answer));
 
         let written = answer.map_or(0, |compiled| compiled.written);
@@ -91,6 +92,14 @@ impl Both {
         answer.ok()
     }
 
+    pub fn sample_width(&mut self, netlist: &[u8]) -> Option<u8> {
+        let expected = independent(reference::sample_width(netlist));
+        let answer = verified(zaatarloft::sample_width(netlist));
+        assert_eq!(answer, expected, "sample width of {netlist:?}");
+        self.sample_width.count(number(&answer));
+        answer.ok()
+    }
+
     pub fn check(&mut self, matrix: &[u8], netlist: &[u8]) -> bool {
         let expected = independent(reference::check(matrix, netlist));
         let answer = verified(zaatarloft::check(matrix, netlist));
@@ -100,7 +109,7 @@ impl Both {
     }
 
     /// Runs on outputs with these old contents, and returns the outputs where it was accepted.
-    pub fn run(&mut self, netlist: &[u8], samples: &[i16], old: &[i64]) -> Option<Vec<i64>> {
+    pub fn run(&mut self, netlist: &[u8], samples: &[i32], old: &[i64]) -> Option<Vec<i64>> {
         let (expected, values) = lend(old, -7, |lent| reference::run(netlist, samples, lent));
         let (answer, outputs) = lend(old, -7, |lent| zaatarloft::run(netlist, samples, lent));
         let (answer, expected) = (verified(answer), independent(expected));
@@ -169,6 +178,11 @@ impl Both {
 
     pub fn assert_read(&self, numbers: &[u8], least: u64) {
         self.read.assert_exactly("read", numbers, least);
+    }
+
+    pub fn assert_sample_width(&self, numbers: &[u8], least: u64) {
+        self.sample_width
+            .assert_exactly("sample_width", numbers, least);
     }
 
     pub fn assert_check(&self, numbers: &[u8], least: u64) {

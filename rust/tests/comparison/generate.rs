@@ -8,7 +8,7 @@ use crate::both::Both;
 
 /// The bytes that suffice for every matrix record, and for every netlist.
 const RECORD: usize = 134;
-const NETLIST: usize = 6136;
+const NETLIST: usize = 6137;
 
 /// Old bytes of a buffer, none of them 0, so that also a cleared one is seen.
 fn old_bytes(random: &mut Random, room: usize) -> Vec<u8> {
@@ -84,7 +84,8 @@ fn generated_banks() {
         let old = old_bytes(random, RECORD);
         let seed = random.number() as u32;
         let record = both.generate(m, n, seed, &old).unwrap();
-        let netlist = both.compile(&record, &vec![0xA5; NETLIST]).unwrap();
+        let (width, old) = (random.sample_width(), vec![0xA5; NETLIST]);
+        let netlist = both.compile(&record, width, &old).unwrap();
         assert!(both.check(&record, &netlist));
     });
     both.assert_generate(&[0], 400);

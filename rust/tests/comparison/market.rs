@@ -8,7 +8,7 @@ use crate::both::Both;
 
 /// The bytes that suffice for every matrix record, and for every netlist.
 const RECORD: usize = 134;
-const NETLIST: usize = 6136;
+const NETLIST: usize = 6137;
 
 /// The first line of every file.
 const FIRST: &str = "%%MatrixMarket matrix array integer general\n";
@@ -201,7 +201,8 @@ fn banks_from_files() {
         let text = plain_market_file(&matrix);
         let old = old_bytes(random, RECORD);
         let record = both.read_matrix_market(&text, &old).unwrap();
-        let netlist = both.compile(&record, &vec![0xA5; NETLIST]).unwrap();
+        let (width, old) = (random.sample_width(), vec![0xA5; NETLIST]);
+        let netlist = both.compile(&record, width, &old).unwrap();
         assert!(both.check(&matrix.record(), &netlist));
     });
     both.assert_market(&[0], 400);

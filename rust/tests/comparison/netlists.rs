@@ -1,40 +1,42 @@
-//! Read, check and run on netlists: those of compile, others that are right, and damaged ones.
+//! Read, sample_width, check and run on netlists: those of compile, others that are right, and damaged ones, for samples of all widths.
 
-use cases::{any_bank, any_matrix, any_netlist, damage, each, plain_netlist, Matrix, Random};
+use cases::{any_bank, any_matrix, any_netlist, damage, damage_head, each, other_heads};
+use cases::{plain_netlist, Matrix, Random};
 
 use crate::both::Both;
 
 /// What each call may answer to a netlist of any bytes and a right matrix record.
 const READ: [u8; 7] = [0, 7, 8, 9, 10, 11, 12];
 const CHECK: [u8; 9] = [0, 7, 8, 9, 10, 11, 12, 13, 14];
-const RUN: [u8; 9] = [0, 7, 8, 9, 10, 11, 12, 15, 16];
+const RUN: [u8; 10] = [0, 7, 8, 9, 10, 11, 12, 15, 16, 21];
 
-fn compiled(matrix: &Matrix) -> Vec<u8> {
-    let mut netlist = vec![0; 6136];
-    let compiled = reference::compile(&matrix.record(), &mut netlist);
+fn compiled(matrix: &Matrix, width: u8) -> Vec<u8> {
+    let mut netlist = vec![0; 6137];
+    let compiled = reference::compile(&matrix.record(), width, &mut netlist);
     netlist.truncate(compiled.unwrap().written);
     netlist
 }
 
-/// A netlist of any of the three kinds.
+/// A netlist of any of the three kinds, for samples of any width.
 fn netlist(random: &mut Random, matrix: &Matrix) -> Vec<u8> {
-    let most = random.choose(&[5, 30, 120]);
+    let (most, width) = (random.choose(&[5, 30, 120]), random.sample_width());
     let operations = random.between(0, most);
     match random.between(0, 2) {
-        0 => compiled(matrix),
-        1 => any_netlist(random, matrix.m(), matrix.n(), operations),
-        _ => plain_netlist(random, matrix).unwrap_or_else(|| compiled(matrix)),
+        0 => compiled(matrix, width),
+        1 => any_netlist(random, width, matrix.m(), matrix.n(), operations),
+        _ => plain_netlist(random, width, matrix).unwrap_or_else(|| compiled(matrix, width)),
     }
 }
 
-/// All three calls; run with right and wrong counts of samples and outputs.
+/// All four calls; run with right and wrong counts of samples and outputs, and samples that fit or do not.
 fn all_calls(both: &mut Both, random: &mut Random, matrix: &Matrix, netlist: &[u8]) {
     let (m, n) = (matrix.m(), matrix.n());
     both.read(netlist);
+    let width = both.sample_width(netlist).unwrap_or(16);
     both.check(&matrix.record(), netlist);
     let samples = random.choose(&[n, n, n, n.saturating_sub(1), n + 1, 0, 8]);
     let outputs = random.choose(&[m, m, m, m.saturating_sub(1), m + 1, 0, 8]);
-    let samples: Vec<i16> = (0..samples).map(|_| random.sample()).collect();
+    let samples = random.near_samples(width, samples);
     let old: Vec<i64> = (0..outputs).map(|_| random.number() as i64).collect();
     both.run(netlist, &samples, &old);
 }
@@ -46,15 +48,19 @@ fn damaged_netlists() {
         let (matrix, other) = (any_bank(random, 4, 4), any_bank(random, 4, 4));
         let right = netlist(random, &matrix);
         let spliced = netlist(random, &other);
-        let damaged = damage(random, &right, &spliced);
+        let damaged = match random.between(0, 4) {
+            0 => damage_head(random, &right),
+            _ => damage(random, &right, &spliced),
+        };
         all_calls(&mut both, random, &matrix, &damaged);
         both.check(&other.record(), &damaged);
         let twice = damage(random, &damaged, &right);
         all_calls(&mut both, random, &matrix, &twice);
     });
     both.assert_read(&READ, 1_000);
+    both.assert_sample_width(&READ, 1_000);
     both.assert_check(&CHECK, 500);
-    both.assert_run(&RUN, 500);
+    both.assert_run(&RUN, 100);
 }
 
 #[test]
@@ -74,14 +80,80 @@ fn right_netlists() {
     });
     both.assert_read(&[0, 10], 100);
     both.assert_check(&[0, 10, 13, 14], 100);
-    both.assert_run(&[0, 10, 15, 16], 100);
+    both.assert_run(&[0, 10, 15, 16, 21], 100);
 }
 
-/// A matrix that has a plain netlist, and that netlist.
-fn matrix_and_plain_netlist(random: &mut Random) -> (Matrix, Vec<u8>) {
+/// Netlists for samples of every width, with heads of both kinds damaged in each byte.
+#[test]
+fn other_heads_of_every_width() {
+    let mut both = Both::default();
+    each(25_000_000, 20, |random| {
+        for width in 8..=24 {
+            let matrix = any_bank(random, 3, 3);
+            for head in other_heads(&compiled(&matrix, width)) {
+                all_calls(&mut both, random, &matrix, &head);
+            }
+        }
+    });
+    both.assert_read(&[0, 7, 8, 9, 10, 11], 1);
+}
+
+/// Every kind and length of a head near those of the two, with every byte where a width is due.
+#[test]
+fn every_kind_length_and_width_of_a_head() {
+    let mut both = Both::default();
+    let mut random = Random::new(3);
+    let matrix = Matrix::of_rows(&[&[3, -3]]);
+    let right = compiled(&matrix, 12);
+    for (kind, length) in (0..=9).flat_map(|kind| (0..=12).map(move |length| (kind, length))) {
+        for byte in 0..=255 {
+            let mut netlist = right.clone();
+            (netlist[0], netlist[2], netlist[8]) = (length, kind, byte);
+            all_calls(&mut both, &mut random, &matrix, &netlist);
+            netlist.remove(8);
+            all_calls(&mut both, &mut random, &matrix, &netlist);
+        }
+    }
+    both.assert_read(&[0, 7, 8, 9, 10], 1);
+}
+
+/// Every vector of two samples at the ends of each width, one past them and far past them; then with too few outputs.
+#[test]
+fn samples_at_the_ends() {
+    let mut both = Both::default();
+    let matrix = Matrix::of_rows(&[&[257, -257], &[-1, -1], &[0, 0]]);
+    for width in 8..=24 {
+        let netlist = compiled(&matrix, width);
+        let end = 1 << (width - 1);
+        let fits = |&x: &i32| -end <= x && x < end;
+        let all = [
+            i32::MIN,
+            -end - 1,
+            -end,
+            -end + 1,
+            -1,
+            0,
+            end - 1,
+            end,
+            end + 1,
+            i32::MAX,
+        ];
+        for samples in all.iter().flat_map(|&x| all.map(|y| [x, y])) {
+            let outputs = both.run(&netlist, &samples, &[1; 3]);
+            let expected = samples.iter().all(fits).then(|| matrix.times(&samples));
+            assert_eq!(outputs, expected);
+            both.run(&netlist, &samples, &[1; 2]);
+            both.run(&netlist, &samples[1..], &[1; 2]);
+        }
+    }
+    both.assert_run(&[0, 15, 16, 21], 17);
+}
+
+/// A matrix that has a plain netlist for samples of so many bits, and that netlist.
+fn matrix_and_plain_netlist(random: &mut Random, width: u8) -> (Matrix, Vec<u8>) {
     loop {
         let matrix = any_matrix(random, 8, 8);
-        if let Some(plain) = plain_netlist(random, &matrix) {
+        if let Some(plain) = plain_netlist(random, width, &matrix) {
             return (matrix, plain);
         }
     }
@@ -92,9 +164,10 @@ fn matrix_and_plain_netlist(random: &mut Random) -> (Matrix, Vec<u8>) {
 fn plain_netlists() {
     let mut both = Both::default();
     each(3_000_000, 10_000, |random| {
-        let (matrix, plain) = matrix_and_plain_netlist(random);
+        let width = random.sample_width();
+        let (matrix, plain) = matrix_and_plain_netlist(random, width);
         assert!(both.check(&matrix.record(), &plain));
-        let samples: Vec<i16> = matrix.rows[0].iter().map(|_| random.sample()).collect();
+        let samples = random.samples(width, matrix.n());
         let outputs = both.run(&plain, &samples, &vec![1; matrix.m()]);
         assert_eq!(outputs, Some(matrix.times(&samples)));
     });
@@ -108,7 +181,8 @@ fn longest_netlists() {
     each(4_000_000, 1_000, |random| {
         let matrix = any_matrix(random, 8, 8);
         let operations = random.choose(&[500, 503, 504, 504, 505, 506]);
-        let long = any_netlist(random, matrix.m(), matrix.n(), operations);
+        let (m, n, width) = (matrix.m(), matrix.n(), random.sample_width());
+        let long = any_netlist(random, width, m, n, operations);
         all_calls(&mut both, random, &matrix, &long);
         let damaged = damage(random, &long, &long);
         all_calls(&mut both, random, &matrix, &damaged);
@@ -172,6 +246,10 @@ fn random_records() {
         let operations = random.between(0, 3) as u8;
         let (m, n) = (matrix.m() as u8, matrix.n() as u8);
         let mut bytes = vec![8, 0, 2, 0, m, n, operations, 0];
+        if random.once_in(2) {
+            bytes.push(random.sample_width());
+            (bytes[0], bytes[2]) = (9, 6);
+        }
         for (kind, length) in [(3, 12), (4, 9), (5, 8)] {
             let count = [operations, m, 1][kind - 3];
             for _ in 0..count {

@@ -10,14 +10,23 @@ use crate::both::Both;
 /// A head with m, n and operations 0, then totals of 0.
 const NETLIST: [u8; 16] = [8, 0, 2, 0, 0, 0, 0, 0, 8, 0, 5, 0, 0, 0, 0, 0];
 
+/// The same for samples of so many bits.
+fn netlist_of_width(width: u8) -> Vec<u8> {
+    match width {
+        16 => NETLIST.to_vec(),
+        _ => [&[9, 0, 6, 0, 0, 0, 0, 0, width], &NETLIST[8..]].concat(),
+    }
+}
+
 #[test]
 fn buffers_of_every_length() {
     let mut both = Both::default();
-    for room in 0..=40 {
-        let netlist = both.compile(&[], &vec![0xA5; room]);
-        assert_eq!(netlist, (room >= 16).then(|| NETLIST.to_vec()));
+    for (width, room) in (8..=24).flat_map(|width| (0..=40).map(move |room| (width, room))) {
+        let netlist = both.compile(&[], width, &vec![0xA5; room]);
+        let expected = netlist_of_width(width);
+        assert_eq!(netlist, (room >= expected.len()).then_some(expected));
     }
-    both.assert_compile(&[0, 6], 16);
+    both.assert_compile(&[0, 6], 17 * 16);
 }
 
 /// One to five bytes, and six with every m and n.
@@ -26,11 +35,11 @@ fn few_bytes() {
     let mut both = Both::default();
     for byte in 0..=255 {
         for length in 1..=5 {
-            both.compile(&vec![byte; length], &[0; 40]);
+            both.compile(&vec![byte; length], 16, &[0; 40]);
             both.check(&vec![byte; length], &NETLIST);
         }
         for other in 0..=255 {
-            both.compile(&[6, 0, 1, 0, byte, other], &[0; 40]);
+            both.compile(&[6, 0, 1, 0, byte, other], 24, &[0; 40]);
             both.check(&[6, 0, 1, 0, byte, other], &NETLIST);
         }
     }
@@ -44,27 +53,34 @@ fn every_head() {
     let mut both = Both::default();
     for (m, n) in (0..=255).flat_map(|m| (0..=255).map(move |n| (m, n))) {
         for operations in [[0, 0], [1, 0], [0xF8, 1], [0xF9, 1], [0, 255]] {
-            let mut netlist = NETLIST;
-            netlist[4..8].copy_from_slice(&[m, n, operations[0], operations[1]]);
-            netlist[12..14].copy_from_slice(&operations);
-            both.read(&netlist);
-            both.check(&[], &netlist);
+            for width in [16, 12] {
+                let mut netlist = netlist_of_width(width);
+                netlist[4..8].copy_from_slice(&[m, n, operations[0], operations[1]]);
+                let totals = netlist.len() - 4;
+                netlist[totals..totals + 2].copy_from_slice(&operations);
+                both.read(&netlist);
+                both.check(&[], &netlist);
+            }
         }
     }
-    both.assert_read(&[0, 8, 9], 1);
-    both.assert_check(&[0, 8, 9], 1);
+    both.assert_read(&[0, 8, 9], 2);
+    both.assert_check(&[0, 8, 9], 2);
 }
 
-/// Every byte of the netlist set to every value, the netlist cut off, and with a byte behind it.
+/// Every byte of the netlists of two widths set to every value, the netlists cut off, and with a byte behind them.
 fn others() -> Vec<Vec<u8>> {
-    let mut all: Vec<Vec<u8>> = (0..16).map(|length| NETLIST[..length].to_vec()).collect();
-    for byte in 0..=255 {
-        for place in 0..16 {
-            let mut changed = NETLIST.to_vec();
-            changed[place] = byte;
-            all.push(changed);
+    let mut all = Vec::new();
+    for netlist in [16, 20].map(netlist_of_width) {
+        let length = netlist.len();
+        all.extend((0..length).map(|length| netlist[..length].to_vec()));
+        for byte in 0..=255 {
+            for place in 0..length {
+                let mut changed = netlist.clone();
+                changed[place] = byte;
+                all.push(changed);
+            }
+            all.push([&netlist[..], &[byte]].concat());
         }
-        all.push([&NETLIST[..], &[byte]].concat());
     }
     all
 }
@@ -76,6 +92,7 @@ fn every_byte_changed() {
     let row = Matrix::of_rows(&[&[1]]).record();
     for netlist in others() {
         both.read(&netlist);
+        both.sample_width(&netlist);
         both.check(&[], &netlist);
         both.check(&row, &netlist);
         for samples in 0..=10 {
@@ -85,6 +102,7 @@ fn every_byte_changed() {
         }
     }
     both.assert_read(&[0, 7, 8, 9, 11, 12], 16);
+    both.assert_sample_width(&[0, 7, 8, 9, 11, 12], 16);
     both.assert_check(&[0, 7, 8, 9, 11, 12, 13], 16);
     both.assert_run(&[0, 7, 8, 9, 11, 12, 15, 16], 16);
 }
@@ -96,11 +114,13 @@ fn rows_beside_no_rows() {
     for (m, n) in (1..=8).flat_map(|m| (1..=8).map(move |n| (m, n))) {
         let rows = vec![vec![0; n]; m];
         let record = Matrix { rows }.record();
-        let netlist = both.compile(&record, &[0; 100]).unwrap();
-        both.check(&record, &NETLIST);
-        both.check(&[], &netlist);
+        for width in [16, 8] {
+            let netlist = both.compile(&record, width, &[0; 100]).unwrap();
+            both.check(&record, &netlist_of_width(width));
+            both.check(&[], &netlist);
+        }
     }
-    both.assert_check(&[13], 128);
+    both.assert_check(&[13], 256);
 }
 
 /// What a host has in hand where there is nothing: a slice, a new vector, an empty file.
@@ -113,7 +133,7 @@ fn nothing_in_hand() {
 
     for matrix in [&[][..], &Vec::new()[..], &file[..]] {
         let mut buffer = vec![0; 16];
-        let compiled = zaatarloft::compile(matrix, &mut buffer).unwrap();
+        let compiled = zaatarloft::compile(matrix, 16, &mut buffer).unwrap();
         assert_eq!((compiled.written, &buffer[..]), (16, &NETLIST[..]));
         assert_eq!(zaatarloft::check(matrix, &buffer), Ok(()));
         assert_eq!(zaatarloft::run(&buffer, &[], &mut []), Ok(()));
@@ -121,9 +141,10 @@ fn nothing_in_hand() {
         assert_eq!(ran, Ok(()));
 
         let number = |refusal: zaatarloft::Refusal| refusal.number;
-        let compiled = zaatarloft::compile(matrix, &mut Vec::new());
+        let compiled = zaatarloft::compile(matrix, 16, &mut Vec::new());
         assert_eq!(compiled.map(drop).map_err(number), Err(6));
         assert_eq!(zaatarloft::read(matrix).map(drop).map_err(number), Err(7));
+        assert_eq!(zaatarloft::sample_width(matrix).map_err(number), Err(7));
         let stepped = zaatarloft::step(matrix, 0);
         assert_eq!(stepped.map(drop).map_err(number), Err(7));
     }

@@ -1,22 +1,24 @@
 //! The functions under the wrappers, as C calls them: what the wrappers hide. Every number of an answer is written, all are 0
 //! where it is a refusal.
 
-use cases::{any_bank, any_matrix, any_netlist, damage, damage_matrix, damaged_market_file, each};
-use cases::{Met, Random};
+use cases::{any_bank, any_matrix, any_netlist, damage, damage_head, damage_matrix};
+use cases::{damaged_market_file, each, Met, Random};
 use reference::returned;
 use zaatarloft::raw::{
     zaatarloft_raw_compile, zaatarloft_raw_generate, zaatarloft_raw_read,
-    zaatarloft_raw_read_matrix_market, zaatarloft_raw_run, zaatarloft_raw_step,
+    zaatarloft_raw_read_matrix_market, zaatarloft_raw_run, zaatarloft_raw_sample_width,
+    zaatarloft_raw_step,
 };
 
-/// m and n of a netlist.
-fn size(random: &mut Random) -> (usize, usize) {
+/// A netlist for samples of so many bits, with its m and n.
+fn small_netlist(random: &mut Random, width: u8) -> (Vec<u8>, usize, usize) {
     let matrix = any_bank(random, 8, 8);
-    (matrix.m(), matrix.n())
+    let (m, n, operations) = (matrix.m(), matrix.n(), random.between(0, 9));
+    (any_netlist(random, width, m, n, operations), m, n)
 }
 
 /// The refusal's number and place, the bytes written, and the counts, all of which held another number before.
-fn raw_compile(record: &[u8], buffer: &mut [u8]) -> ((u8, usize), usize, [u16; 6]) {
+fn raw_compile(record: &[u8], width: u8, buffer: &mut [u8]) -> ((u8, usize), usize, [u16; 6]) {
     let (mut place, mut written) = (77, 77);
     let mut counts = [77; 6];
     let [operations, plain, divisors, replacements, depth, negated] = &mut counts;
@@ -25,6 +27,7 @@ fn raw_compile(record: &[u8], buffer: &mut [u8]) -> ((u8, usize), usize, [u16; 6
         zaatarloft_raw_compile(
             record.as_ptr(),
             record.len(),
+            width,
             buffer.as_mut_ptr(),
             buffer.len(),
             &mut place,
@@ -46,10 +49,10 @@ fn numbers_of_compile() {
     each(11_000_000, 10_000, |random| {
         let (matrix, other) = (any_bank(random, 3, 3), any_bank(random, 3, 3));
         let record = damage_matrix(random, &matrix.record(), &other.record());
-        let room = random.between(0, 400);
-        let (refusal, written, counts) = raw_compile(&record, &mut vec![0; room]);
+        let (room, width) = (random.between(0, 400), random.any_width());
+        let (refusal, written, counts) = raw_compile(&record, width, &mut vec![0; room]);
         met.count(refusal.0);
-        let expected = reference::compile(&record, &mut vec![0; room]);
+        let expected = reference::compile(&record, width, &mut vec![0; room]);
         assert_eq!(refusal, returned(&expected));
         let expected = expected.unwrap_or_default();
         let numbers = [
@@ -62,16 +65,39 @@ fn numbers_of_compile() {
         ];
         assert_eq!((written, counts), (expected.written, numbers));
     });
-    met.assert_exactly("compile", &[0, 1, 2, 3, 4, 5, 6], 100);
+    met.assert_exactly("compile", &[0, 1, 2, 3, 4, 5, 6, 20], 100);
+}
+
+#[test]
+fn numbers_of_sample_width() {
+    let mut met = Met::default();
+    each(26_000_000, 20_000, |random| {
+        let width = random.sample_width();
+        let (right, _, _) = small_netlist(random, width);
+        let netlist = match random.between(0, 2) {
+            0 => damage_head(random, &right),
+            1 => damage(random, &right, &right),
+            _ => right,
+        };
+        let (mut place, mut width) = (77, 77);
+        let bytes = netlist.as_ptr();
+        // SAFETY: the slice is valid for its length, and the numbers are distinct.
+        let number =
+            unsafe { zaatarloft_raw_sample_width(bytes, netlist.len(), &mut place, &mut width) };
+        met.count(number);
+        let expected = reference::sample_width(&netlist);
+        assert_eq!((number, place), returned(&expected));
+        assert_eq!(width, expected.unwrap_or(0));
+    });
+    met.assert_exactly("sample_width", &[0, 7, 8, 9, 10, 11, 12], 100);
 }
 
 #[test]
 fn numbers_of_read_and_step() {
     let (mut met, mut stepped) = (Met::default(), Met::default());
     each(12_000_000, 20_000, |random| {
-        let (m, n) = size(random);
-        let operations = random.between(0, 9);
-        let right = any_netlist(random, m, n, operations);
+        let width = random.sample_width();
+        let (right, _, _) = small_netlist(random, width);
         let netlist = damage(random, &right, &right);
         let (mut place, mut m, mut n, mut operations, mut depth) = (77, 77, 77, 77, 77);
         // SAFETY: the slice is valid for its length, and the numbers are distinct.
@@ -113,15 +139,14 @@ fn numbers_of_read_and_step() {
 fn numbers_of_run() {
     let mut met = Met::default();
     each(13_000_000, 20_000, |random| {
-        let (m, n) = size(random);
-        let operations = random.between(0, 9);
-        let right = any_netlist(random, m, n, operations);
+        let width = random.sample_width();
+        let (right, m, n) = small_netlist(random, width);
         let netlist = match random.between(0, 2) {
             0 => damage(random, &right, &right),
             _ => right,
         };
         let count = random.choose(&[n, n, n, n + 1, n.saturating_sub(1), 0, 9, 100]);
-        let samples: Vec<i16> = (0..count).map(|_| random.sample()).collect();
+        let samples = random.near_samples(width, count);
         let count = random.choose(&[m, m, m, m + 1, m.saturating_sub(1), 0, 9, 100]);
         let old: Vec<i64> = (0..count).map(|_| random.number() as i64).collect();
         let mut outputs = old.clone();
@@ -144,7 +169,7 @@ fn numbers_of_run() {
         assert_eq!((number, place), returned(&expected));
         assert_eq!(outputs, values);
     });
-    met.assert_exactly("run", &[0, 7, 8, 9, 10, 11, 12, 15, 16], 100);
+    met.assert_exactly("run", &[0, 7, 8, 9, 10, 11, 12, 15, 16, 21], 100);
 }
 
 /// A call that writes into a buffer of so many bytes and has the place and the bytes written through references, beside the reference's.

@@ -10,7 +10,8 @@ fn every_place() {
     each(8_000_000, 3_000, |random| {
         let matrix = any_bank(random, 3, 3);
         let operations = random.between(0, 12);
-        let right = any_netlist(random, matrix.m(), matrix.n(), operations);
+        let width = random.sample_width();
+        let right = any_netlist(random, width, matrix.m(), matrix.n(), operations);
         let damaged = damage(random, &right, &matrix.record());
         let count = random.between(0, 40);
         let any = random.bytes(count);
