@@ -31,7 +31,7 @@ static void compile_and_run(const uint8_t *matrix, size_t length)
 {
     uint8_t netlist[ZAATARLOFT_NETLIST_BYTES];
 
-    struct zaatarloft_compiled compiled = zaatarloft_compile(matrix, length, netlist, sizeof netlist);
+    struct zaatarloft_compiled compiled = zaatarloft_compile(matrix, length, 16, netlist, sizeof netlist);
     print_refusal("compile", compiled.refusal, compiled.place);
     printf("%zu bytes, %u operations:", compiled.written, compiled.operations);
     for (size_t i = 0; i < compiled.written; i++) {
@@ -53,10 +53,12 @@ static void compile_and_run(const uint8_t *matrix, size_t length)
 /* Every call, lent nothing at all. */
 static void lend_nothing(void)
 {
-    struct zaatarloft_compiled compiled = zaatarloft_compile(NULL, 0, NULL, 0);
+    struct zaatarloft_compiled compiled = zaatarloft_compile(NULL, 0, 16, NULL, 0);
     print_refusal("compile into no bytes", compiled.refusal, compiled.place);
     struct zaatarloft_netlist read = zaatarloft_read(NULL, 0);
     print_refusal("read no bytes", read.refusal, read.place);
+    struct zaatarloft_width width = zaatarloft_sample_width(NULL, 0);
+    print_refusal("sample_width of no bytes", width.refusal, width.place);
     struct zaatarloft_checked checked = zaatarloft_check(NULL, 0, NULL, 0);
     print_refusal("check no bytes", checked.refusal, checked.place);
     struct zaatarloft_ran ran = zaatarloft_run(NULL, 0, NULL, 0, NULL, 0);

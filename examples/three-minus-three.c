@@ -1,4 +1,4 @@
-/* Document 01's example from C: compiles the row 3, -3, then steps over, reads, checks and runs the netlist.
+/* Document 01's example from C: compiles the row 3, -3 for samples of 16 bits, then steps over, reads, checks and runs the netlist.
  *
  *     rt staticlib zaatarloft
  *     cc -I include examples/three-minus-three.c -L target/staticlib -lzaatarloft -o three-minus-three
@@ -29,15 +29,15 @@ static void print_records(const uint8_t *netlist, size_t length)
 int main(void)
 {
     static const uint8_t matrix[] = {0x0A, 0x00, 0x01, 0x00, 0x01, 0x02, 0x03, 0x00, 0xFD, 0xFF};
-    static const int16_t samples[] = {32767, -32768};
+    static const int32_t samples[] = {32767, -32768};
     uint8_t buffer[ZAATARLOFT_NETLIST_BYTES];
     int64_t outputs[1];
 
-    struct zaatarloft_compiled compiled = zaatarloft_compile(matrix, sizeof matrix, buffer, 48);
+    struct zaatarloft_compiled compiled = zaatarloft_compile(matrix, sizeof matrix, 16, buffer, 48);
     printf("compile into 48 bytes: refusal %u at %zu, %s, written %zu\n", compiled.refusal, compiled.place,
            zaatarloft_refusal_words(compiled.refusal), compiled.written);
 
-    compiled = zaatarloft_compile(matrix, sizeof matrix, buffer, sizeof buffer);
+    compiled = zaatarloft_compile(matrix, sizeof matrix, 16, buffer, sizeof buffer);
     printf("compile: refusal %u at %zu, written %zu, operations %u, plain %u, divisors %u, replacements %u, depth %u, "
            "negated %u\n",
            compiled.refusal, compiled.place, compiled.written, compiled.operations, compiled.plain, compiled.divisors,
