@@ -1,6 +1,6 @@
 //! The burn-in run of both sides: 8 by 8 banks of 1,000 seeds, each generated, compiled and checked, by the run's processor time.
 
-use bench::{Side, NETLIST_ROOM, SIDES};
+use bench::{Side, NETLIST_ROOM, SAMPLE_WIDTH, SIDES};
 
 use crate::times::processor_time;
 
@@ -18,11 +18,11 @@ fn bank(side: Side, seed: u32) {
     let (mut record, mut netlist) = ([0; RECORD], [0; NETLIST_ROOM]);
     let checked = match side {
         Side::Verified => zaatarloft::generate(8, 8, seed, &mut record)
-            .and_then(|_| zaatarloft::compile(&record, &mut netlist))
+            .and_then(|_| zaatarloft::compile(&record, SAMPLE_WIDTH, &mut netlist))
             .and_then(|compiled| zaatarloft::check(&record, &netlist[..compiled.written]))
             .is_ok(),
         Side::Independent => reference::generate(8, 8, seed, &mut record)
-            .and_then(|_| reference::compile(&record, &mut netlist))
+            .and_then(|_| reference::compile(&record, SAMPLE_WIDTH, &mut netlist))
             .and_then(|compiled| reference::check(&record, &netlist[..compiled.written]))
             .is_ok(),
     };

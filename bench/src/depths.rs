@@ -1,7 +1,7 @@
 //! Operations, depth and negated outputs of random banks: of the verified library's netlists, of those by the rules that requests A4 and
 //! A5 have replaced, and the figures that source document 000 has for banks of its own.
 
-use bench::{seeds, NETLIST_ROOM};
+use bench::{seeds, NETLIST_ROOM, SAMPLE_WIDTH};
 use cases::{bank, filled, Matrix, Random};
 use reference::{compile_by, Operands, Rules, Sums};
 
@@ -99,9 +99,13 @@ impl Totals {
             ..Rules::default()
         };
         let (record, mut netlist) = (matrix.record(), [0; NETLIST_ROOM]);
-        let mut by = |rules| compile_by(rules, &record, &mut netlist).expect("a right record");
+        let mut by = |rules| {
+            let compiled = compile_by(rules, &record, SAMPLE_WIDTH, &mut netlist);
+            compiled.expect("a right record")
+        };
         let (chain, in_order) = (by(chain), by(in_order));
-        let compiled = zaatarloft::compile(&record, &mut netlist).expect("a right record");
+        let compiled = zaatarloft::compile(&record, SAMPLE_WIDTH, &mut netlist);
+        let compiled = compiled.expect("a right record");
         assert_eq!(compiled.operations, chain.operations);
         assert_eq!(compiled.operations, in_order.operations);
         assert_eq!(compiled.depth, in_order.depth);

@@ -4,7 +4,10 @@ use cases::{bank, plain_market_file, Random};
 use reference::literal::Elimination;
 
 /// The bytes that suffice for every netlist.
-pub const NETLIST_ROOM: usize = 6136;
+pub const NETLIST_ROOM: usize = 6137;
+
+/// The bits of the samples that all banks are compiled for.
+pub const SAMPLE_WIDTH: u8 = 16;
 
 #[derive(Clone, Copy, Debug, PartialEq, Eq)]
 pub enum Call {
@@ -69,7 +72,7 @@ pub struct Input {
     matrix: Vec<u8>,
     buffer: Vec<u8>,
     netlist: Vec<u8>,
-    samples: Vec<i16>,
+    samples: Vec<i32>,
     outputs: Vec<i64>,
     /// Not the bank's matrix: a generated record of its size.
     generated: Vec<u8>,
@@ -87,7 +90,8 @@ impl Input {
         let bank = bank(&mut random, m, n, bits);
         let matrix = bank.record();
         let mut buffer = vec![0; NETLIST_ROOM];
-        let compiled = reference::compile(&matrix, &mut buffer).expect("a right record");
+        let compiled = reference::compile(&matrix, SAMPLE_WIDTH, &mut buffer);
+        let compiled = compiled.expect("a right record");
         Input {
             generated: matrix.clone(),
             seed: seed as u32,
@@ -96,7 +100,7 @@ impl Input {
             matrix,
             netlist: buffer[..compiled.written].to_vec(),
             buffer,
-            samples: (0..n).map(|_| random.sample()).collect(),
+            samples: random.samples(SAMPLE_WIDTH, n),
             outputs: vec![0; m],
             operations: usize::from(compiled.operations),
         }
@@ -115,7 +119,7 @@ impl Input {
         let (m, n) = (matrix[4], matrix[5]);
         let accepted = match (side, call) {
             (Side::Verified, Call::Compile) => {
-                zaatarloft::compile(matrix, &mut self.buffer).is_ok()
+                zaatarloft::compile(matrix, SAMPLE_WIDTH, &mut self.buffer).is_ok()
             }
             (Side::Verified, Call::Read) => zaatarloft::read(netlist).is_ok(),
             (Side::Verified, Call::Check) => zaatarloft::check(matrix, netlist).is_ok(),
@@ -127,7 +131,7 @@ impl Input {
                 zaatarloft::read_matrix_market(&self.file, &mut self.record).is_ok()
             }
             (Side::Independent, Call::Compile) => {
-                reference::compile(matrix, &mut self.buffer).is_ok()
+                reference::compile(matrix, SAMPLE_WIDTH, &mut self.buffer).is_ok()
             }
             (Side::Independent, Call::Read) => reference::read(netlist).is_ok(),
             (Side::Independent, Call::Check) => reference::check(matrix, netlist).is_ok(),
