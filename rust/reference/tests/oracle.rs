@@ -60,8 +60,8 @@ for line in sys.stdin:
 ";
 
 fn bytes(bytes: &[u8]) -> String {
-    let digits = bytes.iter().map(|byte| format!("{byte:02x}"));
-    "x".chars().map(String::from).chain(digits).collect()
+    let digits: String = bytes.iter().map(|byte| format!("{byte:02x}")).collect();
+    format!("x{digits}")
 }
 
 /// The process of the second program, and what was met, call by call.
@@ -128,16 +128,15 @@ impl Bank {
         netlist
     }
 
+    /// Compares read, and what sample_width says beside it.
     fn read(&mut self, netlist: &[u8]) {
-        let ours = reference::read(netlist).and_then(|r| {
-            let width = reference::sample_width(netlist)?;
-            Ok(format!(
-                "{} {} {} {} {width}",
-                r.m, r.n, r.operations, r.depth
-            ))
+        let (read, width) = (reference::read(netlist), reference::sample_width(netlist));
+        assert_eq!(width.err(), read.err());
+        let ours = read.map(|r| {
+            let numbers = [r.m.into(), r.n.into(), r.operations, r.depth];
+            let listed = numbers.map(|number: u16| number.to_string()).join(" ");
+            format!("{listed} {}", width.unwrap())
         });
-        let width = reference::sample_width(netlist);
-        assert_eq!(width.err(), ours.clone().err());
         let number = self.ask(format!("read {}", bytes(netlist)), ours);
         self.read.count(number);
     }
