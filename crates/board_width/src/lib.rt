@@ -48,15 +48,16 @@ pub fn scaled(x: u64, s: u8) -> u64
     x << s
 }
 
-// The width over samples of s bits, where the positive coefficients sum to p and the negative ones to −q.
+// The width over samples of s bits, where the positive coefficients sum to p and the negative ones to −q. Were both ends of the samples
+// 2^(s−1) in size, so would be those of the value, times p + q; the upper one is smaller by 1.
 fn width_of(s: u8, p: u64, q: u64) -> u8
     requires { ⌜ (1 ≤ s) × (s ≤ 62) ⌝ }
     requires { ⌜ 2 ^ (s - 1) * (p + q) < 2 ^ 62 ⌝ }
     ensures { λ r. ⌜ r ≡ widthOf s p q ⌝ }
 {
-    let top = scaled(1, s - 1);
-    let high = (top - 1) * p + top * q;
-    let low = top * p + (top - 1) * q;
+    let spread = scaled(p + q, s - 1);
+    let high = spread - p;
+    let low = spread - q;
     let end = larger(high, one_less(low));
     bit_count(end) + 1
 }

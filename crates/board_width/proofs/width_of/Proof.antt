@@ -3,70 +3,59 @@ use borrow.Author.Needs.{needs}
 use mathlib.Core.Path.{_≡_, refl, ap, _∙_}
 use Prim.Native.Nat.{ℕ, zero, suc, pred, _+_, _*_, _-_, _^_, _≤_, _<_, max}
 use native.Mathlib.Omega.{arith}
-use lib.Pow.{pow-mono, pow-pos}
+use native.Mathlib.Nat.{mul-le-mul-right}
+use lib.Pow.{pow-pos}
 use Rattle.board_rules.specs.Width.{bits, highestOf, lowestOf}
 use Rattle.board_rules.proofs.WidthLaws.{bits-least}
 use Rattle.board_width.proofs.width_of.Statement.{statement}
 use Rattle.board_width.proofs.width_of.Tie as tie
 
--- what fits, where the samples are from −P to g = P − 1
-record Fit (g P p q : ℕ) : Type 0 where
-  some : 1 ≤ P
-  high-p : g * p < 2 ^ 62
-  high-q : P * q < 2 ^ 62
-  high : g * p + P * q < 2 ^ 62
-  low-p : P * p < 2 ^ 62
-  low-q : g * q < 2 ^ 62
-  low : P * p + g * q < 2 ^ 62
+-- the ends of the range, where the samples are from −P to P − 1
+record Ends (P p q spread : ℕ) : Type 0 where
+  within : spread < 2 ^ 62
+  above : p ≤ spread
+  below : q ≤ spread
+  high : spread - p ≡ (P - 1) * p + P * q
+  low : spread - q ≡ P * p + (P - 1) * q
 
-fit : (P p q : ℕ) → 0 < P → P * (p + q) < 2 ^ 62 → Fit (P - 1) P p q
-fit zero p q z h = absurd (omega arith)
-fit (suc g) p q z h = let e : suc g - 1 ≡ g = omega arith in rw e (omega arith)
+ends : (P p q spread : ℕ) → 0 < P → P * (p + q) < 2 ^ 62 → spread ≡ (p + q) * P → Ends P p q spread
+ends zero p q spread z h e = absurd (omega arith)
+ends (suc g) p q spread z h e =
+    let d : suc g - 1 ≡ g = omega arith in
+    record { within = omega arith; above = omega arith; below = omega arith; high = rw d (omega arith); low = rw d (omega arith) }
 
 -- the end that is farther from 0, as the code has it
-end-is : {t P x r : ℕ} (p q : ℕ) → t ≡ P → x ≡ pred (t * p + (t - 1) * q) → r ≡ max ((t - 1) * p + t * q) x
+end-is : {P spread x r : ℕ} (p q : ℕ) → Ends P p q spread → x ≡ pred (spread - q) → r ≡ max (spread - p) x
     → r ≡ max ((P - 1) * p + P * q) (pred (P * p + (P - 1) * q))
-end-is p q d e f = f ∙ rw (e, d) refl
+end-is p q d e f = f ∙ rw (e, d .high, d .low) refl
+
+add-scaled : tie.Need-add-scaled
+add-scaled c = omega (arith, c .pre .1, mul-le-mul-right (c .args .p + c .args .q) (pow-pos (c .args .s - 1)))
 
 sub-scaled : tie.Need-sub-scaled
 sub-scaled c = search needs
 
 scaled-requires : tie.Need-scaled-requires
-scaled-requires c κs = (omega arith, omega (arith, pow-mono {i = c .args .s - 1} {j = 61} (omega arith)))
+scaled-requires c κs = (omega arith, omega (arith, c .pre .1))
 
 module _ (c : tie.After-scaled) where
   abbrev s : ℕ
   s = c .before .args .s
 
-  top : c .scaled .result ≡ 2 ^ (s - 1)
-  top = omega (arith, c .scaled .ensures)
+  abbrev p : ℕ
+  p = c .before .args .p
 
-  fits : Fit (c .scaled .result - 1) (c .scaled .result) (c .before .args .p) (c .before .args .q)
-  fits = rw top (fit (2 ^ (s - 1)) (c .before .args .p) (c .before .args .q) (pow-pos (s - 1)) (c .before .pre .1))
+  abbrev q : ℕ
+  q = c .before .args .q
+
+  range : Ends (2 ^ (s - 1)) p q (c .scaled .result)
+  range = ends (2 ^ (s - 1)) p q (c .scaled .result) (pow-pos (s - 1)) (c .before .pre .1) (c .scaled .ensures)
 
 sub-high : tie.Need-sub-high
-sub-high c = omega (arith, fits c .some)
-
-mul-high : tie.Need-mul-high
-mul-high c = omega (arith, fits c .high-p)
-
-mul-high-2 : tie.Need-mul-high-2
-mul-high-2 c = omega (arith, fits c .high-q)
-
-add-high : tie.Need-add-high
-add-high c = omega (arith, fits c .high)
-
-mul-low : tie.Need-mul-low
-mul-low c = omega (arith, fits c .low-p)
+sub-high c = omega (arith, range c .above)
 
 sub-low : tie.Need-sub-low
-sub-low c = omega (arith, fits c .some)
-
-mul-low-2 : tie.Need-mul-low-2
-mul-low-2 c = omega (arith, fits c .low-q)
-
-add-low : tie.Need-add-low
-add-low c = omega (arith, fits c .low)
+sub-low c = omega (arith, range c .below)
 
 one-less-requires : tie.Need-one-less-requires
 one-less-requires c κs = search needs
@@ -78,14 +67,11 @@ module _ (c : tie.After-larger) where
   abbrev a : tie.After-scaled
   a = c .before .before
 
-  abbrev farther : ℕ
-  farther = max (highestOf (s a) (a .before .args .p) (a .before .args .q)) (pred (lowestOf (s a) (a .before .args .p) (a .before .args .q)))
-
-  end : c .larger .result ≡ farther
-  end = end-is (a .before .args .p) (a .before .args .q) (top a) (c .before .one-less .ensures) (c .larger .ensures)
+  end : c .larger .result ≡ max (highestOf (s a) (p a) (q a)) (pred (lowestOf (s a) (p a) (q a)))
+  end = end-is (p a) (q a) (range a) (c .before .one-less .ensures) (c .larger .ensures)
 
   end-fits : c .larger .result < 2 ^ 62
-  end-fits = omega (arith, c .larger .ensures, c .before .one-less .ensures, fits a .high, fits a .low)
+  end-fits = omega (arith, c .larger .ensures, c .before .one-less .ensures, range a .within)
 
 bit-count-requires : tie.Need-bit-count-requires
 bit-count-requires c κs = search needs
@@ -100,16 +86,11 @@ pub width-of-spec : {M : Type 1} → statement M
 width-of-spec =
     tie.close
     (tie.spec
+    add-scaled
     sub-scaled
     scaled-requires
     sub-high
-    mul-high
-    mul-high-2
-    add-high
-    mul-low
     sub-low
-    mul-low-2
-    add-low
     one-less-requires
     larger-requires
     bit-count-requires
