@@ -16,7 +16,7 @@ pub fn seconds(time: f64) -> String {
     }
 }
 
-/// A whole number with commas, as 6,136.
+/// A whole number with commas, as 6,137.
 pub fn thousands(number: f64) -> String {
     let digits = format!("{number:.0}");
     let mut grouped = String::new();
