@@ -1,8 +1,8 @@
-// Little-endian numbers in lent bytes.
+// Little-endian numbers in lent bytes, and two's complement of four.
 ghost use mathlib.Core.Path.{_≡_};
 ghost use Prim.Native.Nat.{_+_, _<_, _≤_};
 ghost use lib.ListN.{length};
-ghost use Rattle.layout_rules.specs.Bytes.{littleEndian, word, doubleWord};
+ghost use Rattle.layout_rules.specs.Bytes.{littleEndian, word, doubleWord, signedOf};
 ghost use Rattle.layout_rules.specs.Written.{written};
 
 // The number whose two bytes stand at a place.
@@ -23,6 +23,17 @@ pub fn double_word_at(bytes: &[u8], place: usize) -> u32
     let low = word_at(bytes, place) as u32;
     let high = word_at(bytes, place + 2) as u32;
     low + 65536 * high
+}
+
+// Two's complement of four bytes.
+pub fn signed_double_word(x: u32) -> i32
+    ensures { λ r. ⌜ r ≡ signedOf 32 x ⌝ }
+{
+    if x < 2147483648 {
+        x as i32
+    } else {
+        -1 - ((4294967295 - x) as i32)
+    }
 }
 
 // The two bytes of a number, written at a place; what stands before and behind them stays as it was.

@@ -1,4 +1,5 @@
 pub mod LittleEndian
+pub mod TwosComplement
 pub mod Refusal
 pub mod MatrixRefusal
 pub mod MatrixRows

@@ -6,11 +6,11 @@ use mathlib.Core.Path.{_≡_}
 use mathlib.Core.Bool.{cond, not}
 use mathlib.Core.List.{List, [], _∷_, flatMap}
 use lib.Dec.{ltb, eqb}
-use lib.IntN.{ℤ, pos, _-ℤ_}
+use lib.IntN.{ℤ}
 use lib.ListN.{length, getD}
 use Rattle.limits.specs.Limits.{maxRows, maxColumns}
 use Rattle.limits.specs.Size.{SizeLimits, sizeOutside}
-use Rattle.layout_rules.specs.Bytes.{littleEndian, word, recordBytes}
+use Rattle.layout_rules.specs.Bytes.{littleEndian, word, signedOf, recordBytes}
 
 -- "Kind 1, matrix"
 abbrev pub matrixKind : ℕ
@@ -67,7 +67,7 @@ matrixRefusal bytes =
 
 -- two's complement of two bytes
 unfoldable pub signedWord : ℕ → ℤ
-signedWord x = cond (ltb x 32768) (pos x) (pos x -ℤ pos 65536)
+signedWord x = signedOf 16 x
 
 -- the coefficient of an index, in the record's order
 unfoldable pub coefficientAt : List ℕ → ℕ → ℤ

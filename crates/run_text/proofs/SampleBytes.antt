@@ -25,21 +25,21 @@ use Rattle.netlist_run.proofs.BoardLaws.{samples-differ}
 use Rattle.run_text.specs.Samples.{sampleAt, firstSamples, sampleCount, samplesOf}
 
 module _ (bytes : List ℕ) where
-  pub count-of-odd : length bytes % 2 ≡ 1 → suc maxColumns ≡ sampleCount bytes
+  pub count-where-whole : length bytes % 4 ≡ 0 → length bytes / 4 ≡ sampleCount bytes
   unfolding sampleCount
-  count-of-odd h = rw (ne-eqb (length bytes % 2) 0 (λ z. omega arith))
+  count-where-whole h = rw (eq-eqb (length bytes % 4) 0 h)
 
-  pub count-of-even : (length bytes % 2 ≡ 1 → ⊥) → length bytes / 2 ≡ sampleCount bytes
+  pub count-where-not-whole : (length bytes % 4 ≡ 0 → ⊥) → suc maxColumns ≡ sampleCount bytes
   unfolding sampleCount
-  count-of-even h = rw (eq-eqb (length bytes % 2) 0 (omega arith))
+  count-where-not-whole h = rw (ne-eqb (length bytes % 4) 0 h)
 
   -- as many as a netlist takes are all there
-  pub samples-there : (count : ℕ) → count ≡ sampleCount bytes → count ≤ maxColumns → 2 * count ≤ length bytes
-  samples-there count is few = go (eqb (length bytes % 2) 1) refl
+  pub samples-there : (count : ℕ) → count ≡ sampleCount bytes → count ≤ maxColumns → 4 * count ≤ length bytes
+  samples-there count is few = go (eqb (length bytes % 4) 0) refl
     where
-      go : (odd : Bool) → eqb (length bytes % 2) 1 ≡ odd → 2 * count ≤ length bytes
-      go true e = absurd (omega (arith, count-of-odd (eqb-true (length bytes % 2) 1 e)))
-      go false e = omega (arith, count-of-even (eqb-false (length bytes % 2) 1 e))
+      go : (whole : Bool) → eqb (length bytes % 4) 0 ≡ whole → 4 * count ≤ length bytes
+      go true e = omega (arith, count-where-whole (eqb-true (length bytes % 4) 0 e))
+      go false e = absurd (omega (arith, count-where-not-whole (eqb-false (length bytes % 4) 0 e)))
 
   pub length-samples : length (samplesOf bytes) ≡ sampleCount bytes
   length-samples = length-first (sampleAt bytes) (sampleCount bytes)
@@ -53,7 +53,7 @@ module _ (bytes : List ℕ) where
 -- run answers and leaves the same for both
 abbrev pub Alike : List ℕ → List ℤ → List ℤ → List ℤ → Type 0
 Alike b outputs xs ys =
-    (runAnswer b (length xs) (length outputs) ≡ runAnswer b (length ys) (length outputs)) × (runOutputs b xs outputs ≡ runOutputs b ys outputs)
+    (runAnswer b xs (length outputs) ≡ runAnswer b ys (length outputs)) × (runOutputs b xs outputs ≡ runOutputs b ys outputs)
 
 module _ (b : List ℕ) (outputs xs ys : List ℤ) where
   alike-refused : (r place : ℕ) → readNetlist b ≡ refused r place → Alike b outputs xs ys
@@ -67,7 +67,7 @@ module _ (b : List ℕ) (outputs xs ys : List ℤ) where
       go : (z : Reading Netlist) → readNetlist b ≡ z → Alike b outputs xs ys
       go (refused r place) e = alike-refused r place e
       go (accepted net) e =
-          let limits : HeadLimits readLimits (net .head) = reads-netlist b all net .0 e .netlist .head in
+          let limits : HeadLimits (readLimits (net .head .width)) (net .head) = reads-netlist b all net .0 e .netlist .head in
           let first = samples-differ b xs outputs net e (λ n. omega arith) in
           let second = samples-differ b ys outputs net e (λ n. omega arith) in
           (sym (first .0) ∙ second .0, sym (first .1) ∙ second .1)

@@ -5,7 +5,7 @@ use mathlib.Core.Path.{_≡_, refl, sym, ap, _∙_}
 use mathlib.Core.List.{List}
 use native.Mathlib.Omega.{arith}
 use lib.IntN.{ℤ, pos}
-use lib.ListN.{length, replicate}
+use lib.ListN.{replicate}
 use Rattle.limits.specs.Limits.{maxRows}
 use Rattle.layout_rules.specs.Records.{Netlist}
 use Rattle.layout_rules.proofs.LittleEndian.{AreBytes}
@@ -28,7 +28,7 @@ rows-few b all = go (readNetlist b) refl
 
 module _ (netlist samples : List ℕ) where
   abbrev answered : RunAnswer
-  answered = runAnswer netlist (length (samplesOf samples)) (rowsRead netlist)
+  answered = runAnswer netlist (samplesOf samples) (rowsRead netlist)
 
   abbrev outputs : List ℤ
   outputs = runOutputs netlist (samplesOf samples) (replicate (rowsRead netlist) (pos 0))

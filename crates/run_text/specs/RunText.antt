@@ -4,7 +4,7 @@
 use Prim.Native.Nat.{ℕ, zero, suc, _*_}
 use mathlib.Core.List.{List, _++_, flatMap}
 use lib.IntN.{ℤ, pos, negsuc}
-use lib.ListN.{length, replicate}
+use lib.ListN.{replicate}
 use Rattle.limits.specs.Limits.{maxRows}
 use Rattle.netlist_rules.specs.Read.{readAnswer}
 use Rattle.netlist_rules.specs.Run.{runAnswer, runOutputs}
@@ -33,7 +33,7 @@ rowsRead netlist = readAnswer netlist .m
 unfoldable pub runText : List ℕ → List ℕ → List ℕ
 runText netlist samples =
     let xs = samplesOf samples in
-    let answer = runAnswer netlist (length xs) (rowsRead netlist) in
+    let answer = runAnswer netlist xs (rowsRead netlist) in
     elim (answer .refusal) [
       | suc r ↦ refusedLine (suc r) (answer .place)
       | zero ↦ valueLines (runOutputs netlist xs (replicate (rowsRead netlist) (pos 0)))

@@ -1,12 +1,7 @@
 -- `layout_matrix::signed_word` meets its contract. Assumes nothing.
-use Prim.Native.Nat.{_-_}
-use mathlib.Core.Path.{_∙_}
-use native.Mathlib.Omega.{arith}
-use borrow.Author.Tests.{lt-ltb, le-ltb}
 use mir.Syntax.{w16}
-use mir.ValLaws.{toZ-ofZ, toZ-pos}
-use Rattle.integers.proofs.Expression.{nat, minus, _⊝_, equal, fits}
 use Rattle.layout_rules.specs.Matrix.{signedWord}
+use Rattle.layout_rules.proofs.TwosComplement.{signed-low, signed-high-fits, signed-high}
 use borrow.Author.Needs.{needs}
 use Rattle.layout_matrix.proofs.signed_word.Statement.{statement}
 use Rattle.layout_matrix.proofs.signed_word.Tie as tie
@@ -21,17 +16,15 @@ cast-result-2 : tie.Need-cast-result-2
 cast-result-2 c = search needs
 
 sub-result-2 : tie.Need-sub-result-2
-sub-result-2 c = rw (toZ-pos w16 _ (cast-result-2 c .sfits)) (fits w16 (minus (nat 1) ⊝ nat (65535 - c .before .args .x)) (omega arith) (omega arith))
+sub-result-2 c = signed-high-fits w16 _ (c .if1 .left) (c .before .fits .x .fits)
 
 returns : tie.Need-returns
 unfolding signedWord
-returns c = toZ-pos w16 _ (cast-result c .sfits) ∙ rw (lt-ltb _ _ (c .if1 .taken))
+returns c = signed-low w16 _ (c .if1 .taken)
 
 returns-2 : tie.Need-returns-2
 unfolding signedWord
-returns-2 c =
-    toZ-ofZ w16 _ (sub-result-2 c)
-    ∙ rw (toZ-pos w16 _ (cast-result-2 c .sfits), le-ltb _ _ (c .if1 .left)) (equal (minus (nat 1) ⊝ nat (65535 - c .before .args .x)) (nat (c .before .args .x) ⊝ nat 65536) (omega arith))
+returns-2 c = signed-high w16 _ (c .if1 .left) (c .before .fits .x .fits)
 
 pub signed-word-spec : {M : Type 1} → statement M
 signed-word-spec =

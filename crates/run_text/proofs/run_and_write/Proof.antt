@@ -27,8 +27,8 @@ module _ (c : tie.After-run-on-bytes) where
   count : length (s .args .outputs .now) ≡ rowsRead netlist
   count = ap (λ (l : List ℤ). length l) (s .pre .0) ∙ length-replicate (rowsRead netlist) (pos 0)
 
-  answered : c .run-on-bytes .result ≡ runAnswer netlist (length (samplesOf samples)) (rowsRead netlist)
-  answered = c .run-on-bytes .ensures .0 ∙ ap (λ (k : ℕ). runAnswer netlist (length (samplesOf samples)) k) count
+  answered : c .run-on-bytes .result ≡ runAnswer netlist (samplesOf samples) (rowsRead netlist)
+  answered = c .run-on-bytes .ensures .0 ∙ ap (λ (k : ℕ). runAnswer netlist (samplesOf samples) k) count
 
   filled : c .run-on-bytes .last .1 .1 .0 ≡ runOutputs netlist (samplesOf samples) (replicate (rowsRead netlist) (pos 0))
   filled = c .run-on-bytes .ensures .1 ∙ ap (λ (l : List ℤ). runOutputs netlist (samplesOf samples) l) (s .pre .0)

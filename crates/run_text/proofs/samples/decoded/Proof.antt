@@ -4,10 +4,10 @@ use mathlib.Core.Path.{_≡_, refl, ap, _∙_}
 use native.Mathlib.Omega.{arith}
 use native.Mathlib.Numerals.{add-one}
 use lib.ListN.{length, take, length-set}
-use mir.Syntax.{w16}
+use mir.Syntax.{w32}
 use Rattle.limits.specs.Limits.{maxColumns}
 use Rattle.integers.proofs.Held.{call-result}
-use Rattle.layout_rules.specs.Matrix.{signedWord}
+use Rattle.layout_rules.specs.Bytes.{signedOf}
 use Rattle.layout_rules.specs.Places.{firstRecords}
 use Rattle.run_text.specs.Samples.{firstSamples}
 use Rattle.run_text.proofs.SampleBytes.{next-sample}
@@ -24,14 +24,14 @@ loop-holds : tie.Need-loop-holds Inv-loop μ-loop
 unfolding firstRecords
 loop-holds c = (omega arith, (refl, refl))
 
-mul-word-at : tie.Need-mul-word-at Inv-loop μ-loop
-mul-word-at c = omega arith
+mul-double-word-at : tie.Need-mul-double-word-at Inv-loop μ-loop
+mul-double-word-at c = omega arith
 
-word-at-requires : tie.Need-word-at-requires Inv-loop μ-loop
-word-at-requires c κs = omega arith
+double-word-at-requires : tie.Need-double-word-at-requires Inv-loop μ-loop
+double-word-at-requires c κs = omega arith
 
-signed-word-requires : tie.Need-signed-word-requires Inv-loop μ-loop
-signed-word-requires c κs = tt
+signed-double-word-requires : tie.Need-signed-double-word-requires Inv-loop μ-loop
+signed-double-word-requires c κs = tt
 
 mul-samples : tie.Need-mul-samples Inv-loop μ-loop
 mul-samples c = omega arith
@@ -48,7 +48,7 @@ loop-less c = omega arith
 loop-again : tie.Need-loop-again Inv-loop μ-loop
 loop-again c =
     let l = c .before .before .before in
-    let z = call-result w16 (c .signed-word .ok) (c .signed-word .ensures ∙ ap signedWord (c .before .word-at .ensures)) in
+    let z = call-result w32 (c .signed-double-word .ok) (c .signed-double-word .ensures ∙ ap (signedOf 32) (c .before .double-word-at .ensures)) in
     rw add-one (
       omega arith,
       (length-set (l .loop .samples) (l .loop .i) _ ∙ l .loop .inv .1 .0, next-sample (l .before .before .args .bytes .now) (l .loop .samples) (l .loop .i) _ (omega arith) z (l .loop .inv .1 .1)),
@@ -67,9 +67,9 @@ decoded-spec =
     Inv-loop
     μ-loop
     loop-holds
-    mul-word-at
-    word-at-requires
-    signed-word-requires
+    mul-double-word-at
+    double-word-at-requires
+    signed-double-word-requires
     mul-samples
     array-set-from-samples
     add-i

@@ -60,7 +60,7 @@ returns-2 c =
     let b = args .netlist .now in
     let outputs = args .outputs .now in
     let lent = d .decoded .ensures .1 ∙ ap (firstSamples (args .samples .now)) (s .sample-count .ensures) in (
-      r .run2 .ensures .0 ∙ ap (λ (xs : List ℤ). runAnswer b (length xs) (length outputs)) lent,
+      r .run2 .ensures .0 ∙ ap (λ (xs : List ℤ). runAnswer b xs (length outputs)) lent,
       r .run2 .ensures .1 ∙ ap (λ (xs : List ℤ). runOutputs b xs outputs) lent,
     )
 
