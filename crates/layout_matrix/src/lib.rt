@@ -75,7 +75,7 @@ pub fn matrix_refusal(bytes: &[u8]) -> u8
 }
 
 // Two's complement of two bytes.
-pub fn signed_word(x: u16) -> i16
+fn signed_word(x: u16) -> i16
     ensures { λ r. ⌜ r ≡ signedWord x ⌝ }
 {
     if x < 32768 {

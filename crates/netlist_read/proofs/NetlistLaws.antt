@@ -16,7 +16,6 @@ use Rattle.layout_rules.proofs.InBytes.{length-due}
 use Rattle.board_rules.specs.Netlist.{HeadLimits, OperationLimits, OutputLimits}
 use Rattle.netlist_read.specs.declared.Refusal.{Refusal}
 use Rattle.netlist_rules.specs.declared.ReadAnswer.{ReadAnswer}
-use Rattle.netlist_rules.specs.declared.SampleWidthAnswer.{SampleWidthAnswer}
 use Rattle.netlist_rules.specs.Read.{Reading, refused, accepted, headRefusal, operationRefusal, outputRefusal, totalsRefusal, readOperations, readOutputs, leftoverRefusal, readNetlist, readRefused, readAccepted, readAnswerOf, readAnswer, sampleWidthOf, sampleWidthAnswer}
 use Rattle.netlist_rules.specs.Exact.{readLimits}
 use Rattle.netlist_read.specs.Tables.{refusalOf, NetlistRead}

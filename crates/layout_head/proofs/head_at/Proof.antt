@@ -1,9 +1,7 @@
 -- `layout_head::head_at` meets its contract. Assumes nothing.
-use Prim.Native.Nat.{ℕ, _+_, _<_, _≤_}
-use mathlib.Core.Path.{_≡_, refl, sym, ap}
+use mathlib.Core.Path.{refl}
 use native.Mathlib.Omega.{arith}
 use borrow.Author.Needs.{needs}
-use lib.ListN.{getD}
 use Rattle.layout_rules.specs.Records.{headOf}
 use Rattle.layout_rules.specs.Places.{headLengthIn}
 use Rattle.layout_rules.proofs.Fields.{payload-byte, payload-word}
