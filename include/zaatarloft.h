@@ -89,7 +89,7 @@ static inline const char *zaatarloft_refusal_words(uint8_t refusal)
     case 20: /* place 0 */
         return "the sample width for compile is not 8 to 24";
     case 21: /* place = index of the sample, from 0 */
-        return "lowest index of a sample that doesn't fit the width";
+        return "lowest index of a sample that doesn't fit the netlist's sample width";
     default:
         return NULL;
     }

@@ -4,7 +4,7 @@ use cases::{bank, plain_market_file, Random};
 use reference::literal::Elimination;
 
 /// The bytes that suffice for every netlist.
-pub const NETLIST_ROOM: usize = 6137;
+pub const NETLIST_ROOM: usize = zaatarloft::NETLIST_BYTES;
 
 /// The bits of the samples that all banks are compiled for.
 pub const SAMPLE_WIDTH: u8 = 16;

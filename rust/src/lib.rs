@@ -6,7 +6,7 @@
 //!
 //! ```
 //! let matrix = [0x0A, 0, 1, 0, 1, 2, 3, 0, 0xFD, 0xFF]; // row 3, −3
-//! let mut buffer = [0; 6137];
+//! let mut buffer = [0; zaatarloft::NETLIST_BYTES];
 //! let compiled = zaatarloft::compile(&matrix, 16, &mut buffer)?; // for samples of 16 bits
 //! assert_eq!((compiled.operations, compiled.depth, compiled.negated), (2, 2, 0));
 //! let mut outputs = [0];
@@ -14,11 +14,20 @@
 //! assert_eq!(outputs, [196_605]);
 //! # Ok::<(), zaatarloft::Refusal>(())
 //! ```
+//!
+//! Code written when all samples had 16 bits passes 16 to `compile` as the second argument, lends samples to `run` as `i32`, and gives
+//! a netlist a buffer of 6,137 bytes, one more than before. include/zaatarloft.h says what else request A8 changed.
 
 pub mod raw;
 
 use std::error::Error;
 use std::fmt;
+
+/// So many bytes always suffice for a netlist.
+pub const NETLIST_BYTES: usize = 6137;
+
+/// So many bytes always suffice for a matrix record, of up to 8 by 8.
+pub const MATRIX_BYTES: usize = 134;
 
 /// Why a record was declined: document 01's number and place.
 #[derive(Debug, Clone, Copy, PartialEq, Eq)]
@@ -100,8 +109,9 @@ fn accepted<T>(number: u8, place: usize, answer: T) -> Result<T, Refusal> {
     }
 }
 
-/// From a matrix record and the width of a detector's samples, 8 to 24 bits, to the netlist, at the start of the buffer; 6,137 bytes
-/// always suffice. Refusals 20, then 1 to 6, which leave the buffer as it was. No bytes are a bank of no rows and no inputs:
+/// From a matrix record and the width of a detector's samples, 8 to 24 bits, to the netlist, at the start of the buffer;
+/// `NETLIST_BYTES` always suffice. Refusals 20, then 1 to 6, which leave the buffer as it was. No bytes are a bank of no rows and
+/// no inputs:
 ///
 /// ```
 /// let mut buffer = [0; 16];
@@ -171,7 +181,7 @@ pub fn read(netlist: &[u8]) -> Result<Netlist, Refusal> {
 ///
 /// ```
 /// let matrix = [0x0A, 0, 1, 0, 1, 2, 3, 0, 0xFD, 0xFF]; // row 3, −3
-/// let mut buffer = [0; 6137];
+/// let mut buffer = [0; zaatarloft::NETLIST_BYTES];
 /// let written = zaatarloft::compile(&matrix, 12, &mut buffer)?.written;
 /// let netlist = &buffer[..written];
 /// assert_eq!(zaatarloft::sample_width(netlist)?, 12);
@@ -208,8 +218,8 @@ pub fn check(matrix: &[u8], netlist: &[u8]) -> Result<(), Refusal> {
     accepted(number, place, ())
 }
 
-/// Runs a netlist on n samples, each of which fits the netlist's sample width, and fills m outputs. Refusals 7 to 12, 15, 16 and 21, which
-/// leave the outputs as they were.
+/// Runs a netlist on n samples, each of which fits the netlist's sample width, and fills m outputs. Refusals 7 to 12, 15, 16 and 21,
+/// which leave the outputs as they were.
 pub fn run(netlist: &[u8], samples: &[i32], outputs: &mut [i64]) -> Result<(), Refusal> {
     let mut place = 0;
     // SAFETY: all three slices are valid for their lengths, the outputs for writes, and none of them overlaps another.
@@ -252,7 +262,7 @@ pub fn step(bytes: &[u8], place: usize) -> Result<Record<'_>, Refusal> {
 }
 
 /// From m, n and a seed to the matrix record that they name, at the start of the buffer; returns the bytes written. The bytes
-/// behind them are as they were; 134 bytes always suffice. Refusals 4 and 6, which leave the buffer as it was.
+/// behind them are as they were; `MATRIX_BYTES` always suffice. Refusals 4 and 6, which leave the buffer as it was.
 pub fn generate(m: u8, n: u8, seed: u32, buffer: &mut [u8]) -> Result<usize, Refusal> {
     let mut place = 0;
     let mut written = 0;
@@ -272,12 +282,12 @@ pub fn generate(m: u8, n: u8, seed: u32, buffer: &mut [u8]) -> Result<usize, Ref
 }
 
 /// From the bytes of a Matrix Market file, `matrix array integer general`, to the matrix record of its matrix, at the start of
-/// the buffer; returns the bytes written. The bytes behind them are as they were; 134 bytes always suffice. Refusals 4, 6 and
+/// the buffer; returns the bytes written. The bytes behind them are as they were; `MATRIX_BYTES` always suffice. Refusals 4, 6 and
 /// 17 to 19, which leave the buffer as it was.
 ///
 /// ```
 /// let file = b"%%MatrixMarket matrix array integer general\n% row 3, -3\n1 2\n3\n-3\n";
-/// let mut buffer = [0; 134];
+/// let mut buffer = [0; zaatarloft::MATRIX_BYTES];
 /// let written = zaatarloft::read_matrix_market(file, &mut buffer)?;
 /// assert_eq!(buffer[..written], [0x0A, 0, 1, 0, 1, 2, 3, 0, 0xFD, 0xFF]);
 /// # Ok::<(), zaatarloft::Refusal>(())

@@ -10,7 +10,7 @@ use std::path::{Path, PathBuf};
 const OLD: u8 = 0xA5;
 
 /// The bytes that suffice for every matrix record.
-const ROOM: usize = 134;
+const ROOM: usize = zaatarloft::MATRIX_BYTES;
 
 /// All files NAME.mtx, in order.
 fn files() -> BTreeSet<PathBuf> {

@@ -1,12 +1,12 @@
-//! The netlists of tests/settled-netlists.txt, whose bytes no longer change: the library writes them for samples of 16 bits, and so does the
-//! independent implementation.
+//! The netlists of tests/settled-netlists.txt, whose bytes no longer change: the library writes them for samples of 16 bits, and so
+//! does the independent implementation.
 
 use std::collections::BTreeSet;
 
 const SETTLED: &str = include_str!("../../tests/settled-netlists.txt");
 
 /// The bytes that suffice for every netlist.
-const ROOM: usize = 6137;
+const ROOM: usize = zaatarloft::NETLIST_BYTES;
 
 /// What a lent buffer holds before.
 const OLD: u8 = 0xA5;

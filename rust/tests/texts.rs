@@ -1,4 +1,5 @@
-//! Texts that stand in more than one place say the same: the declarations of the exported functions, and the words of refusals.
+//! Texts that stand in more than one place say the same: the declarations of the exported functions, the room that always suffices,
+//! and the words of refusals.
 
 use zaatarloft::Refusal;
 
@@ -70,6 +71,17 @@ fn declarations_agree() {
     }
     assert_eq!(exported.len(), EXPORTED.matches("#[no_mangle]").count());
     assert_eq!(signatures(DECLARED, "pub fn ", &[";"]), exported);
+}
+
+#[test]
+fn room_in_header() {
+    for (name, bytes) in [
+        ("NETLIST", zaatarloft::NETLIST_BYTES),
+        ("MATRIX", zaatarloft::MATRIX_BYTES),
+    ] {
+        let definition = format!("#define ZAATARLOFT_{name}_BYTES {bytes}\n");
+        assert!(HEADER.contains(&definition), "{definition}");
+    }
 }
 
 /// Number, place and words of each refusal in the file.

@@ -1,5 +1,5 @@
--- The claim of demand 3 holds, and what joins the laws of compile and of read and run: a compiled netlist is a netlist as read takes it, and
--- the bytes written are its bytes.
+-- The claim of demand 3 holds, and what joins the laws of compile and of read and run: a compiled netlist is a netlist as read takes
+-- it, and the bytes written are its bytes.
 -- Assumes nothing.
 use Prim.Native.Nat.{ℕ, _+_, _≤_, _<_}
 use mathlib.Core.Path.{_≡_, refl, sym, ap, ap₂, _∙_, subst}

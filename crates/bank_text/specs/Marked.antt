@@ -1,5 +1,5 @@
--- Document 01, "Marked banks", as one table: the banks of `compile_rules`, and what list-bank prints for row 3, −3, for no bytes, for
--- one byte and for a sample width of 7.
+-- Document 01, "Marked banks", as one table: the banks of `compile_rules`, and what list-bank prints for row 3, −3, with samples of
+-- 16 and of 12 bits, for no bytes, for one byte and for a sample width of 7.
 -- Assumes nothing.
 use mathlib.Core.Path.{_≡_}
 use mathlib.Core.List.{[], _∷_}

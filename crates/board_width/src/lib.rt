@@ -40,16 +40,16 @@ fn one_less(a: u64) -> u64
     if a == 0 { 0 } else { a - 1 }
 }
 
-// x times 2^s, where that fits.
-pub fn scaled(x: u64, s: u8) -> u64
-    requires { ⌜ (s < 64) × (x * 2 ^ s < 2 ^ 64) ⌝ }
-    ensures { λ r. ⌜ r ≡ x * 2 ^ s ⌝ }
+// x times 2^shift, where that fits.
+pub fn scaled(x: u64, shift: u8) -> u64
+    requires { ⌜ (shift < 64) × (x * 2 ^ shift < 2 ^ 64) ⌝ }
+    ensures { λ r. ⌜ r ≡ x * 2 ^ shift ⌝ }
 {
-    x << s
+    x << shift
 }
 
-// The width over samples of s bits, where the positive coefficients sum to p and the negative ones to −q. Were both ends of the samples
-// 2^(s−1) in size, so would be those of the value, times p + q; the upper one is smaller by 1.
+// The width over samples of s bits, where the positive coefficients sum to p and the negative ones to −q. Highest, that is
+// (2^(s−1) − 1)·p + 2^(s−1)·q, is 2^(s−1)·(p + q) less p, and lowest the same less q: one product serves both.
 fn width_of(s: u8, p: u64, q: u64) -> u8
     requires { ⌜ (1 ≤ s) × (s ≤ 62) ⌝ }
     requires { ⌜ 2 ^ (s - 1) * (p + q) < 2 ^ 62 ⌝ }

@@ -1,5 +1,5 @@
 // Document 01, "Netlist and board machine": compile, from a matrix record and the sample width to the netlist's bytes, as
-// `compile_rules` has it. Rests on `compile_plan`, `compile_write` and `compile_lists`.
+// `compile_rules` has it. Rests on `compile_plan`, `compile_write`, `compile_lists` and `layout_head`.
 use compile_lists::outputs::Outputs;
 use compile_rules::CompileAnswer;
 use compile_write::write_netlist;

@@ -1,4 +1,5 @@
--- Document 01, "Netlist and board machine", where compiled widths are at most 35: weights of the symbols, as if no sign were minus.
+-- Document 01, "Netlist and board machine", where compiled widths are at most 19 more than the sample width: weights of the symbols,
+-- as if no sign were minus.
 -- An input has weight 1 in its own column, and a divisor's symbol the weight of its divisor.
 -- Assumes nothing.
 use Prim.Native.Nat.{ℕ, suc, _+_, _*_, _^_, _<_}

@@ -88,9 +88,9 @@ pub fn head_length(width: u8) -> usize
 }
 
 // The head, at the start of the lent buffer; it ends before the width where that is 16.
-pub fn write_head(buf: &mut [u8], head: Head)
-    requires { ⌜ headLengthOf (head .width) ≤ length (now buf) ⌝ }
-    ensures { λ _. ⌜ now (buf .exit) ≡ headBytes head ++ drop (headLengthOf (head .width)) (now (buf .entry)) ⌝ }
+pub fn write_head(buffer: &mut [u8], head: Head)
+    requires { ⌜ headLengthOf (head .width) ≤ length (now buffer) ⌝ }
+    ensures { λ _. ⌜ now (buffer .exit) ≡ headBytes head ++ drop (headLengthOf (head .width)) (now (buffer .entry)) ⌝ }
 {
     let size = head_length(head.width);
     let record = [
@@ -104,5 +104,5 @@ pub fn write_head(buf: &mut [u8], head: Head)
         (head.operations / 256) as u8,
         head.width,
     ];
-    bytes::copy(&record[..size], buf);
+    bytes::copy(&record[..size], buffer);
 }

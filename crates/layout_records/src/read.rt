@@ -1,5 +1,5 @@
-// Document 01, "Netlist and board machine": a reader of the fields of each kind of record but the head, at its place in bytes that hold the record.
-// A record's payload starts 4 bytes behind its place.
+// Document 01, "Netlist and board machine": a reader of the fields of each kind of record but the head, at its place in bytes that
+// hold the record. A record's payload starts 4 bytes behind its place.
 use super::little_endian::word_at;
 use layout_rules::Operation;
 use layout_rules::Output;

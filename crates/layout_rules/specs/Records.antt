@@ -51,7 +51,8 @@ outputPayload o = o .sign ∷ littleEndian (o .symbol) ++ o .shift ∷ o .width 
 unfoldable pub totalsPayload : Totals → List ℕ
 totalsPayload t = littleEndian (t .operations) ++ littleEndian (t .depth)
 
--- ---- the records: "kind 2, head, length 8", or "kind 6, length 9"; "kind 3, operation, length 12", "kind 4, output, length 9", "kind 5, totals, length 8"
+-- ---- the records: "kind 2, head, length 8", or "kind 6, length 9"; "kind 3, operation, length 12", "kind 4, output, length 9",
+-- "kind 5, totals, length 8"
 
 abbrev pub headKind : ℕ
 headKind = 2

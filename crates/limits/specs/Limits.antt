@@ -35,6 +35,10 @@ maxOperations = 504
 abbrev pub maxWidth : ℕ
 maxWidth = 44
 
+-- so many bits hold the number of a column
+abbrev pub columnBits : ℕ
+columnBits = 3
+
 -- ---- worked out
 
 -- "Shifts are 0 to 15", and so are exponents
@@ -64,10 +68,6 @@ termSymbols = maxColumns + maxDivisors
 -- the most symbols of a netlist: inputs and operations
 abbrev pub maxSymbols : ℕ
 maxSymbols = maxColumns + maxOperations
-
--- so many bits hold the number of a column
-abbrev pub columnBits : ℕ
-columnBits = 3
 
 -- "compiled ones at most 19 more than the sample width"
 abbrev pub maxCompiledWidth : ℕ → ℕ

@@ -1,5 +1,5 @@
 // Document 01, "Reading, checking, running" and "Why a record was declined": checking a netlist against a matrix, refusals 1 to 5,
-// 7 to 12, 13, 14, as `netlist_rules` has it. Rests on `netlist_read` and `layout_matrix`.
+// 7 to 12, 13, 14, as `netlist_rules` has it. Rests on `netlist_read`, `layout_head` and `layout_matrix`.
 use board_rules::FORMS_LENGTH;
 use layout_records::places::output_place;
 use layout_records::read::output_at;

@@ -1,5 +1,6 @@
 // Document 01, "Reading, checking, running" and "Why a record was declined": reading a netlist, refusals 7 to 12 record by record, as
-// `netlist_rules` has it. Rests on `netlist_tests`, `board_width` and `board_tables`, and sees nothing of the elimination.
+// `netlist_rules` has it. Rests on `netlist_tests`, `layout_head`, `board_width` and `board_tables`, and sees nothing of the
+// elimination.
 use board_rules::FORMS_LENGTH;
 use layout_head::due_length;
 use layout_head::head_at;

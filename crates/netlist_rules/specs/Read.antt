@@ -22,7 +22,8 @@ use Rattle.netlist_rules.specs.declared.SampleWidthAnswer.{SampleWidthAn
 
 -- ---- refusals of one record; 0 is none
 
--- the record due at a place is of a kind and a length: 7 under 4 bytes remain, or the length exceeds what remains; 8 kind or length not the expected one
+-- the record due at a place is of a kind and a length: 7 under 4 bytes remain, or the length exceeds what remains; 8 kind or length
+-- not the expected one
 unfoldable pub recordRefusal : List ℕ → ℕ → ℕ → ℕ → ℕ
 recordRefusal bytes place kind size =
     elim (stepRefusal bytes place) [

@@ -1,5 +1,6 @@
 // Document 01, "Reading, checking, running" and "Why a record was declined": running a netlist on samples, refusals 7 to 12, 15, 16, 21,
-// as `netlist_rules` has it. Rests on `netlist_read`, and on `board_width` for a number's positive and negative part.
+// as `netlist_rules` has it. Rests on `netlist_read`, on `layout_head`, and on `board_width` for a number's positive and negative
+// part.
 use layout_head::due_length;
 use layout_head::head_at;
 use layout_records::places::operation_place;

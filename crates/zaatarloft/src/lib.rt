@@ -104,7 +104,8 @@ pub extern "C" fn zaatarloft_raw_run(
     ran.refusal
 }
 
-// Step: the numbers of the step over the record at a place. An accepted record's payload starts 4 bytes behind that place and ends at the next.
+// Step: the numbers of the step over the record at a place. An accepted record's payload starts 4 bytes behind that place and ends
+// at the next.
 #[no_mangle]
 pub extern "C" fn zaatarloft_raw_step(
     bytes: &[u8],

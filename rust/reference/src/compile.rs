@@ -74,7 +74,7 @@ fn plain_count(rows: &Rows, m: usize) -> u16 {
 
 /// The bytes of a netlist: head, operations, outputs, totals.
 fn size(board: &Board, samples: Samples) -> usize {
-    let head = if samples.said().is_none() { 8 } else { 9 };
+    let head = if samples.stated().is_none() { 8 } else { 9 };
     head + 12 * board.operations.len() + 9 * board.outputs.len() + 8
 }
 
@@ -124,13 +124,13 @@ impl Writer<'_> {
 
     /// Kind 2, or kind 6, which has the samples' width behind the rest.
     fn head(&mut self, board: &Board, samples: Samples) {
-        let said = samples.said();
-        let (length, kind) = if said.is_none() { (8, 2) } else { (9, 6) };
+        let stated = samples.stated();
+        let (length, kind) = if stated.is_none() { (8, 2) } else { (9, 6) };
         self.number(length);
         self.number(kind);
         self.bytes(&[board.outputs.len() as u8, board.n as u8]);
         self.number(board.operations.len() as u16);
-        if let Some(width) = said {
+        if let Some(width) = stated {
             self.bytes(&[width]);
         }
     }

@@ -1,7 +1,7 @@
 //! Samples: two's complement numbers of 8 to 24 bits.
 
-/// The width that a netlist's head does not say: it is then of kind 2, and else of kind 6.
-const UNSAID: u8 = 16;
+/// The width that no head states: a head of kind 2 is of that width, and one of kind 6 states another.
+const UNSTATED: u8 = 16;
 
 /// The samples of a detector, all those of one width.
 #[derive(Clone, Copy, Debug, PartialEq, Eq)]
@@ -15,18 +15,18 @@ impl Samples {
         (8..=24).contains(&width).then_some(Samples { width })
     }
 
-    /// Those of a head that says so many bits, or none.
-    pub fn of_head(said: Option<u8>) -> Option<Self> {
-        match said {
-            None => Samples::of_width(UNSAID),
-            Some(UNSAID) => None,
+    /// Those of a head that states so many bits, or none.
+    pub fn of_head(stated: Option<u8>) -> Option<Self> {
+        match stated {
+            None => Samples::of_width(UNSTATED),
+            Some(UNSTATED) => None,
             Some(width) => Samples::of_width(width),
         }
     }
 
-    /// What a head says of them.
-    pub fn said(self) -> Option<u8> {
-        (self.width != UNSAID).then_some(self.width)
+    /// The width that a head states for them.
+    pub fn stated(self) -> Option<u8> {
+        (self.width != UNSTATED).then_some(self.width)
     }
 
     pub fn width(self) -> u8 {

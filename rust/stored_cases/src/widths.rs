@@ -4,7 +4,7 @@ use cases::{filled, Matrix};
 
 use crate::matrices::{five_zero_minus_one, matrices, no_rows, three_minus_three};
 
-/// Both ends, those of older and newer detectors, and the one that a head does not say.
+/// Both ends, those of older and newer detectors, and the one that no head states.
 pub const WIDTHS: [u8; 5] = [8, 12, 16, 20, 24];
 
 /// Widths that compile refuses, with 20.

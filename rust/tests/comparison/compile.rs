@@ -6,7 +6,7 @@ use cases::{any_bank, any_matrix, bank, damage_matrix, each, Matrix, Random};
 use crate::both::Both;
 
 /// The bytes that suffice for every netlist.
-const ROOM: usize = 6137;
+const ROOM: usize = zaatarloft::NETLIST_BYTES;
 
 /// The length of a matrix's netlist.
 fn netlist_length(matrix: &Matrix, width: u8) -> usize {

@@ -7,8 +7,8 @@ use cases::{each, Random};
 use crate::both::Both;
 
 /// The bytes that suffice for every matrix record, and for every netlist.
-const RECORD: usize = 134;
-const NETLIST: usize = 6137;
+const RECORD: usize = zaatarloft::MATRIX_BYTES;
+const NETLIST: usize = zaatarloft::NETLIST_BYTES;
 
 /// Old bytes of a buffer, none of them 0, so that also a cleared one is seen.
 fn old_bytes(random: &mut Random, room: usize) -> Vec<u8> {

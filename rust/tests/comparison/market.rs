@@ -7,8 +7,8 @@ use cases::{Matrix, Random};
 use crate::both::Both;
 
 /// The bytes that suffice for every matrix record, and for every netlist.
-const RECORD: usize = 134;
-const NETLIST: usize = 6137;
+const RECORD: usize = zaatarloft::MATRIX_BYTES;
+const NETLIST: usize = zaatarloft::NETLIST_BYTES;
 
 /// The first line of every file.
 const FIRST: &str = "%%MatrixMarket matrix array integer general\n";

@@ -11,7 +11,7 @@ const CHECK: [u8; 9] = [0, 7, 8, 9, 10, 11, 12, 13, 14];
 const RUN: [u8; 10] = [0, 7, 8, 9, 10, 11, 12, 15, 16, 21];
 
 fn compiled(matrix: &Matrix, width: u8) -> Vec<u8> {
-    let mut netlist = vec![0; 6137];
+    let mut netlist = vec![0; zaatarloft::NETLIST_BYTES];
     let compiled = reference::compile(&matrix.record(), width, &mut netlist);
     netlist.truncate(compiled.unwrap().written);
     netlist

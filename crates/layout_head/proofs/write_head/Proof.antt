@@ -48,7 +48,7 @@ returns : tie.Need-returns
 returns c =
     let s = c .before .before .before .before .before .before .before in
     let first = s .before .before .before in
-    c .before .before .copy .ensures .1 ∙ front-copied (first .args .head) _ _ (s .before .head-length .ensures) (s .head-kind .ensures) (first .args .buf .now)
+    c .before .before .copy .ensures .1 ∙ front-copied (first .args .head) _ _ (s .before .head-length .ensures) (s .head-kind .ensures) (first .args .buffer .now)
 
 pub write-head-spec : {M : Type 1} → statement M
 write-head-spec =
