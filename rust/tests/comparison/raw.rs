@@ -72,8 +72,8 @@ fn numbers_of_compile() {
 fn numbers_of_sample_width() {
     let mut met = Met::default();
     each(26_000_000, 20_000, |random| {
-        let width = random.sample_width();
-        let (right, _, _) = small_netlist(random, width);
+        let compiled_for = random.sample_width();
+        let (right, _, _) = small_netlist(random, compiled_for);
         let netlist = match random.between(0, 2) {
             0 => damage_head(random, &right),
             1 => damage(random, &right, &right),
