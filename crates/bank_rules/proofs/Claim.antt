@@ -35,7 +35,7 @@ use Rattle.netlist_rules.specs.declared.RunAnswer.{RunAnswer}
 use Rattle.netlist_rules.specs.Read.{readAccepted, readAnswer}
 use Rattle.netlist_rules.specs.Check.{checked, checkAnswer}
 use Rattle.netlist_rules.specs.Run.{ran, runAnswer, runOutputs, netlistOutputs}
-use Rattle.netlist_rules.specs.Exact.{readLimits, IsNetlistBytes}
+use Rattle.netlist_rules.specs.Exact.{readLimits, IsNetlistBytes, IsNetlistOf}
 use Rattle.netlist_rules.proofs.ReadAccepts.{reading-of, read-answer}
 use Rattle.netlist_rules.proofs.CheckAccepts.{netlist-checked}
 use Rattle.netlist_rules.proofs.RunLaws.{run-fills}
@@ -94,16 +94,19 @@ module _ (s : ℕ) (bits : SampleWidth s) (matrixBytes : List ℕ) (w : MatrixWi
   pub always-long-enough : (buffer : List ℕ) → enoughBytes ≤ length buffer → length (compiledBytes s matrixBytes) ≤ length buffer
   always-long-enough buffer room = omega (arith, compiled-length s matrixBytes (w .are-bytes) refusal)
 
-  -- the checker passes what compile writes
-  pub compiled-checked : checkAnswer matrixBytes (compiledBytes s matrixBytes) ≡ checked 0 0
+  -- what compile writes is a netlist of the matrix
+  pub compiled-netlist-of : IsNetlistOf matrixBytes (compiledBytes s matrixBytes) (compiledNetlist s matrixBytes)
   unfolding netlistOf
-  compiled-checked =
-      netlist-checked matrixBytes (compiledBytes s matrixBytes) (compiledNetlist s matrixBytes) record {
-        within-limits = refusal;
-        netlist = netlist-there;
-        size = record { same-rows = refl; same-columns = refl };
-        computes = λ xs vector. compiled-times s matrixBytes (w .are-bytes) refusal xs (vector .count);
-      }
+  compiled-netlist-of = record {
+    within-limits = refusal;
+    netlist = netlist-there;
+    size = record { same-rows = refl; same-columns = refl };
+    computes = λ xs vector. compiled-times s matrixBytes (w .are-bytes) refusal xs (vector .count);
+  }
+
+  -- so the checker passes it
+  pub compiled-checked : checkAnswer matrixBytes (compiledBytes s matrixBytes) ≡ checked 0 0
+  compiled-checked = netlist-checked matrixBytes (compiledBytes s matrixBytes) (compiledNetlist s matrixBytes) compiled-netlist-of
 
   -- document 01's elimination of the matrix
   steps : let e = eliminationOf matrixBytes in Steps (columns matrixBytes) (matrixRows positions (matrix matrixBytes)) (e .divisors) (e .replacements) (e .remainingRows)

@@ -12,7 +12,8 @@ use Rattle.sum_rules.specs.Shallowest.{sumOperations, sumOutputs}
 use Rattle.compile_rules.specs.Compile.{operationsOf, outputsOf, withWidths, netlistOf, inputRefusal}
 use Rattle.compile_rules.proofs.Marked.{marked-banks}
 use Rattle.text.specs.Decimal.{decimal, number}
-use Rattle.listing_rules.specs.Listing.{countsLine, operationLine, valueText, lines}
+use Rattle.text.specs.Text.{lines}
+use Rattle.listing_rules.specs.Listing.{countsLine, operationLine, valueText}
 use Rattle.listing_rules.proofs.Marked.{marked}
 use Rattle.bank_text.specs.BankText.{bankText}
 use Rattle.bank_text.specs.Marked.{MarkedTable}

@@ -3,5 +3,6 @@ pub mod Truth
 pub mod Difference
 pub mod Expression
 pub mod Ring
+pub mod Congruence
 pub mod Size
 pub mod Held

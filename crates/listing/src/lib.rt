@@ -13,8 +13,9 @@ ghost use mathlib.Core.Path.{_≡_};
 ghost use Prim.Native.Nat.{_+_, _*_, _<_, _≤_};
 ghost use lib.ListN.{length};
 ghost use Rattle.layout_rules.specs.Places.{operationPlace, outputPlace, headLengthIn, firstOperations, firstOutputs};
-ghost use Rattle.listing_rules.specs.Listing.{operationLine, outputLine, lines};
+ghost use Rattle.listing_rules.specs.Listing.{operationLine, outputLine};
 ghost use Rattle.listing_rules.specs.Records.{listingOf, longestOperationLine, longestOutputLine, room};
+ghost use Rattle.text.specs.Text.{lines};
 ghost use Rattle.text.specs.Wrote.{Wrote};
 
 // The lines of a netlist's operations, behind its head of so many bytes, with symbols from the number of inputs on.

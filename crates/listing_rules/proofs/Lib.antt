@@ -1,4 +1,3 @@
 pub mod Lines
-pub mod Listed
 pub mod Records
 pub mod Marked

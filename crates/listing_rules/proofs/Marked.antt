@@ -2,7 +2,8 @@
 -- Assumes nothing.
 use mathlib.Core.Path.{refl}
 use Rattle.text.specs.Decimal.{decimal, number}
-use Rattle.listing_rules.specs.Listing.{countsLine, operationLine, valueText, lines}
+use Rattle.text.specs.Text.{lines}
+use Rattle.listing_rules.specs.Listing.{countsLine, operationLine, valueText}
 use Rattle.listing_rules.specs.Marked.{MarkedListing}
 
 pub marked : MarkedListing

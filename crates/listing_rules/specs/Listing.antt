@@ -1,13 +1,13 @@
 -- Document 01, "Programs": the text that the program list-bank prints, as bytes. Every line ends in a line feed.
 -- Assumes nothing.
-use Prim.Native.Nat.{ℕ, suc}
+use Prim.Native.Nat.{ℕ}
 use mathlib.Core.Bool.{cond}
-use mathlib.Core.List.{List, [], _∷_, _++_}
+use mathlib.Core.List.{List, [], _++_}
 use lib.Dec.{eqb}
 use Rattle.layout_rules.specs.declared.Operation.{Operation}
 use Rattle.layout_rules.specs.declared.Output.{Output}
 use Rattle.text.specs.Decimal.{number}
-use Rattle.text.specs.Text.{ascii}
+use Rattle.text.specs.Text.{ascii, lines}
 use Rattle.listing_rules.specs.declared.Counts.{Counts}
 
 -- the first line: inputs N outputs M operations K plain P divisors D replacements R depth X
@@ -64,11 +64,6 @@ valueText o = cond (eqb (o .sign) 2) (ascii " = zero width 1\n") (entryText o ++
 -- row, sign, symbol<<shift, width
 abbrev pub outputLine : ℕ → Output → List ℕ
 outputLine row o = ascii "row " ++ number row ++ valueText o
-
--- a line for each, numbered from the first number on
-unfoldable pub lines : {A : Type 0} → (ℕ → A → List ℕ) → ℕ → List A → List ℕ
-lines line first [] = []
-lines line first (x ∷ xs) = line first x ++ lines line (suc first) xs
 
 -- operations have symbols from the number of inputs on, rows count from 0
 abbrev pub listing : Counts → List Operation → List Output → List ℕ

@@ -1,2 +1,4 @@
 pub mod Decimal
 pub mod Wrote
+pub mod Lines
+pub mod Listed

@@ -1,20 +1,21 @@
 -- `listing::write_operations` meets its contract. The loop's invariant: what is written and the lines left make the whole. Assumes nothing.
 use Prim.Native.Nat.{ℕ, _*_, _-_, _≤_}
-use mathlib.Core.Path.{_≡_, refl, ap, _∙_}
+use mathlib.Core.Path.{_≡_, refl, sym, ap, _∙_}
 use native.Mathlib.Omega.{arith}
 use lib.ListN.{length, length-take, length-drop}
 use Rattle.layout_rules.specs.Records.{operationLength, operationOf}
-use Rattle.layout_rules.specs.Places.{payloadOf, operationPlace, operationAt}
+use Rattle.layout_rules.specs.Places.{payloadOf, operationPlace, operationAt, firstOperations}
+use Rattle.layout_rules.proofs.FirstRecords.{length-first, getD-first}
 use Rattle.layout_rules.proofs.InBytes.{length-due}
 use Rattle.listing_rules.specs.Listing.{operationLine}
 use Rattle.listing_rules.specs.Records.{longestOperationLine}
-use Rattle.listing_rules.proofs.Listed.{Listed, listed-start, listed-more, listed-end}
+use Rattle.text.proofs.Listed.{Listed, listed-start, listed-more, listed-end}
 use Rattle.listing.proofs.write_operations.Statement.{statement}
 use Rattle.listing.proofs.write_operations.Tie as tie
 
 abbrev Inv-loop : tie.InvT-loop
 Inv-loop inputs operations head netlist text₀ k₀ at₀ text k at =
-    Listed operationLine inputs (operationAt netlist) operations text₀ text at k
+    Listed operationLine inputs (firstOperations netlist operations) text₀ text at k
     × (k ≤ operations)
     × (at ≤ longestOperationLine * k)
     × (length text ≡ length text₀)
@@ -23,7 +24,7 @@ abbrev μ-loop : tie.MeasureT-loop
 μ-loop inputs operations head netlist text₀ k₀ at₀ text k at = operations - k
 
 loop-holds : tie.Need-loop-holds Inv-loop μ-loop
-loop-holds c = let a = c .before .before .args in (listed-start operationLine (a .inputs) (operationAt (a .netlist .now)) (a .operations) (a .text .now), omega arith, omega arith, refl)
+loop-holds c = let a = c .before .before .args in (listed-start operationLine (a .inputs) (firstOperations (a .netlist .now) (a .operations)) (a .text .now), omega arith, omega arith, refl)
 
 cast-operation-place : tie.Need-cast-operation-place Inv-loop μ-loop
 cast-operation-place c = omega arith
@@ -68,9 +69,13 @@ loop-again c =
     let h = c .before .before .before .before .before .before .loop-test .taken in
     let place = c .before .before .before .before .before .operation-place in
     let read = c .before .before .before .before .operation-at in
-    let wrote = c .before .before .write-operation in (
-      listed-more operationLine (a .inputs) (operationAt (a .netlist .now)) (a .operations) (a .text .now) (l .inv .0) h
-          (read .ensures ∙ ap (λ (p : ℕ). operationOf (payloadOf (a .netlist .now) p operationLength)) (place .ensures ∙ ap (λ (h : ℕ). operationPlace h (l .k)) (s .pre .1 .0 .0)))
+    let wrote = c .before .before .write-operation in
+    let operation = operationAt (a .netlist .now) in
+    let there : read .result ≡ operation (l .k) =
+    read .ensures ∙ ap (λ (p : ℕ). operationOf (payloadOf (a .netlist .now) p operationLength)) (place .ensures ∙ ap (λ (h : ℕ). operationPlace h (l .k)) (s .pre .1 .0 .0)) in (
+      listed-more operationLine (a .inputs) (firstOperations (a .netlist .now) (a .operations)) (a .text .now) (l .inv .0)
+          (omega (arith, h, length-first operation (a .operations)))
+          (getD-first operation (a .operations) (l .k) _ h ∙ sym there)
           refl
           (wrote .ensures .0),
       omega arith,
@@ -85,7 +90,7 @@ returns : tie.Need-returns Inv-loop μ-loop
 returns c =
     let a = c .before .before .before .before .args in
     let l = c .before .loop in
-    (listed-end operationLine (a .inputs) (operationAt (a .netlist .now)) (a .operations) (a .text .now) (l .inv .0) (c .loop-test .left), omega arith)
+    (listed-end operationLine (a .inputs) (firstOperations (a .netlist .now) (a .operations)) (a .text .now) (l .inv .0) (omega (arith, c .loop-test .left, length-first (operationAt (a .netlist .now)) (a .operations))), omega arith)
 
 pub write-operations-spec : {M : Type 1} → statement M
 write-operations-spec =

@@ -1,20 +1,21 @@
 -- `listing::write_outputs` meets its contract. The loop's invariant: what is written and the lines left make the whole. Assumes nothing.
 use Prim.Native.Nat.{ℕ, _+_, _*_, _-_, _≤_}
-use mathlib.Core.Path.{_≡_, refl, ap, _∙_}
+use mathlib.Core.Path.{_≡_, refl, sym, ap, _∙_}
 use native.Mathlib.Omega.{arith}
 use lib.ListN.{length, length-take, length-drop}
 use Rattle.layout_rules.specs.Records.{outputLength, outputOf}
-use Rattle.layout_rules.specs.Places.{payloadOf, outputPlace, outputAt}
+use Rattle.layout_rules.specs.Places.{payloadOf, outputPlace, outputAt, firstOutputs}
+use Rattle.layout_rules.proofs.FirstRecords.{length-first, getD-first}
 use Rattle.layout_rules.proofs.InBytes.{length-due}
 use Rattle.listing_rules.specs.Listing.{outputLine}
 use Rattle.listing_rules.specs.Records.{longestOutputLine}
-use Rattle.listing_rules.proofs.Listed.{Listed, listed-start, listed-more, listed-end}
+use Rattle.text.proofs.Listed.{Listed, listed-start, listed-more, listed-end}
 use Rattle.listing.proofs.write_outputs.Statement.{statement}
 use Rattle.listing.proofs.write_outputs.Tie as tie
 
 abbrev Inv-loop : tie.InvT-loop
 Inv-loop operations outputs head netlist text₀ row₀ at₀ text row at =
-    Listed outputLine 0 (outputAt netlist operations) outputs text₀ text at row
+    Listed outputLine 0 (firstOutputs netlist operations outputs) text₀ text at row
     × (row ≤ outputs)
     × (at ≤ longestOutputLine * row)
     × (length text ≡ length text₀)
@@ -23,7 +24,7 @@ abbrev μ-loop : tie.MeasureT-loop
 μ-loop operations outputs head netlist text₀ row₀ at₀ text row at = outputs - row
 
 loop-holds : tie.Need-loop-holds Inv-loop μ-loop
-loop-holds c = let a = c .before .before .args in (listed-start outputLine 0 (outputAt (a .netlist .now) (a .operations)) (a .outputs) (a .text .now), omega arith, omega arith, refl)
+loop-holds c = let a = c .before .before .args in (listed-start outputLine 0 (firstOutputs (a .netlist .now) (a .operations) (a .outputs)) (a .text .now), omega arith, omega arith, refl)
 
 cast-output-place : tie.Need-cast-output-place Inv-loop μ-loop
 cast-output-place c = omega arith
@@ -66,9 +67,13 @@ loop-again c =
     let place = c .before .before .before .before .before .output-place in
     let read = c .before .before .before .before .output-at in
     let wrote = c .before .before .write-output in
-    let numbered : l .row ≡ 0 + l .row = omega arith in (
-      listed-more outputLine 0 (outputAt (a .netlist .now) (a .operations)) (a .outputs) (a .text .now) (l .inv .0) h
-          (read .ensures ∙ ap (λ (p : ℕ). outputOf (payloadOf (a .netlist .now) p outputLength)) (place .ensures ∙ ap (λ (h : ℕ). outputPlace h (a .operations) (l .row)) (s .pre .0 .0)))
+    let numbered : l .row ≡ 0 + l .row = omega arith in
+    let output = outputAt (a .netlist .now) (a .operations) in
+    let there : read .result ≡ output (l .row) =
+    read .ensures ∙ ap (λ (p : ℕ). outputOf (payloadOf (a .netlist .now) p outputLength)) (place .ensures ∙ ap (λ (h : ℕ). outputPlace h (a .operations) (l .row)) (s .pre .0 .0)) in (
+      listed-more outputLine 0 (firstOutputs (a .netlist .now) (a .operations) (a .outputs)) (a .text .now) (l .inv .0)
+          (omega (arith, h, length-first output (a .outputs)))
+          (getD-first output (a .outputs) (l .row) _ h ∙ sym there)
           numbered
           (wrote .ensures .0),
       omega arith,
@@ -83,7 +88,7 @@ returns : tie.Need-returns Inv-loop μ-loop
 returns c =
     let a = c .before .before .before .before .args in
     let l = c .before .loop in
-    (listed-end outputLine 0 (outputAt (a .netlist .now) (a .operations)) (a .outputs) (a .text .now) (l .inv .0) (c .loop-test .left), omega arith)
+    (listed-end outputLine 0 (firstOutputs (a .netlist .now) (a .operations) (a .outputs)) (a .text .now) (l .inv .0) (omega (arith, c .loop-test .left, length-first (outputAt (a .netlist .now) (a .operations)) (a .outputs))), omega arith)
 
 pub write-outputs-spec : {M : Type 1} → statement M
 write-outputs-spec =
