@@ -1,5 +1,5 @@
-// Document 01's eight calls for hosts in C and Rust, over numbers and slices of numbers alone. Rests on `compile`,
-// `netlist_read`, `netlist_check`, `netlist_run`, `layout_step`, `generator` and `market`.
+// Document 01's nine calls for hosts in C and Rust, over numbers and slices of numbers alone. Rests on `compile`, `netlist_read`,
+// `netlist_check`, `netlist_run`, `layout_step`, `generator`, `market` and `verilog`.
 // Each function returns the refusal's number, 0 where it accepts, and writes the other numbers of the answer through the references.
 // The names say raw: include/zaatarloft.h and rust/src/lib.rs have calls over them that give an answer as one struct.
 ghost use mathlib.Core.Path.{_≡_};
@@ -11,6 +11,7 @@ ghost use Rattle.netlist_rules.specs.Run.{runAnswer, runOutputs};
 ghost use Rattle.layout_rules.specs.Step.{stepNumbers};
 ghost use Rattle.generator.specs.Generator.{generateAnswer, generateBuffer};
 ghost use Rattle.market_rules.specs.Market.{marketAnswer, marketBuffer};
+ghost use Rattle.verilog_rules.specs.Answer.{verilogAnswer, verilogBuffer};
 
 // Compile: from a matrix record, or no bytes, to the netlist for samples of a width, at the start of the lent buffer.
 #[no_mangle]
@@ -157,4 +158,21 @@ pub extern "C" fn zaatarloft_raw_read_matrix_market(
     *place = converted.place;
     *written = converted.written;
     converted.refusal
+}
+
+// Write Verilog: from a netlist to the text of its module, at the start of the lent buffer.
+#[no_mangle]
+pub extern "C" fn zaatarloft_raw_write_verilog(
+    netlist: &[u8],
+    buffer: &mut [u8],
+    place: &mut usize,
+    written: &mut usize,
+) -> u8
+    ensures { λ r. ⌜ record { refusal = r; place = now (place .exit); written = now (written .exit) } ≡ verilogAnswer (now (netlist .entry)) (length (now (buffer .entry))) ⌝ }
+    ensures { λ _. ⌜ now (buffer .exit) ≡ verilogBuffer (now (netlist .entry)) (now (buffer .entry)) ⌝ }
+{
+    let wrote = verilog::write_verilog(netlist, buffer);
+    *place = wrote.place;
+    *written = wrote.written;
+    wrote.refusal
 }
