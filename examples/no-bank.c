@@ -1,5 +1,5 @@
 /* A channel with no bank: its matrix file has no bytes. Compiles what the file named holds, or no bytes where none is named, then
- * reads, checks and runs the netlist. Where a length is 0 it lends NULL.
+ * reads, checks and runs the netlist and writes its Verilog module. Where a length is 0 it lends NULL.
  *
  *     rt staticlib zaatarloft
  *     cc -I include examples/no-bank.c -L target/staticlib -lzaatarloft -o no-bank
@@ -48,6 +48,11 @@ static void compile_and_run(const uint8_t *matrix, size_t length)
 
     struct zaatarloft_ran ran = zaatarloft_run(netlist, compiled.written, NULL, 0, NULL, 0);
     print_refusal("run", ran.refusal, ran.place);
+
+    uint8_t text[ZAATARLOFT_VERILOG_BYTES];
+    struct zaatarloft_verilog verilog = zaatarloft_write_verilog(netlist, compiled.written, text, sizeof text);
+    print_refusal("write_verilog", verilog.refusal, verilog.place);
+    fwrite(text, 1, verilog.written, stdout);
 }
 
 /* Every call, lent nothing at all. */
@@ -70,6 +75,8 @@ static void lend_nothing(void)
     print_refusal("generate into no bytes", generated.refusal, generated.place);
     struct zaatarloft_matrix_market matrix = zaatarloft_read_matrix_market(NULL, 0, NULL, 0);
     print_refusal("read_matrix_market of no bytes", matrix.refusal, matrix.place);
+    struct zaatarloft_verilog verilog = zaatarloft_write_verilog(NULL, 0, NULL, 0);
+    print_refusal("write_verilog of no bytes", verilog.refusal, verilog.place);
 }
 
 int main(int argc, char **argv)

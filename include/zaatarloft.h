@@ -1,5 +1,5 @@
-/* Zaatarloft's calls for C and C++: compile, read, sample_width, check, run, step, generate and read_matrix_market, as
- * docs/SPECIFICATION.md has them, which is cited as document 01.
+/* Zaatarloft's calls for C and C++: compile, read, sample_width, check, run, step, generate, read_matrix_market and
+ * write_verilog, as docs/SPECIFICATION.md has them, which is cited as document 01.
  * The library is target/staticlib/libzaatarloft.a, for x86-64 Linux; `rt staticlib zaatarloft` proves and builds it.
  *
  * Every call returns its answer as a struct: the refusal's number, 0 where it accepts, its place, then the other numbers, which
@@ -36,6 +36,9 @@
 /* So many bytes always suffice for a matrix record, of up to 8 by 8. */
 #define ZAATARLOFT_MATRIX_BYTES 134
 
+/* So many bytes always suffice for the text of a Verilog module. */
+#define ZAATARLOFT_VERILOG_BYTES 37987
+
 #ifdef __cplusplus
 extern "C" {
 #endif
@@ -57,7 +60,7 @@ static inline const char *zaatarloft_refusal_words(uint8_t refusal)
     case 5: /* place 0 */
         return "the matrix's length is not 6 + 2 times m times n";
     case 6: /* place 0 */
-        return "output buffer shorter than the netlist or the matrix record";
+        return "output buffer shorter than the netlist, the matrix record or the Verilog text";
     case 7: /* record's start */
         return "under 4 bytes remain, or the length exceeds what remains";
     case 8: /* record's start */
@@ -122,6 +125,9 @@ uint8_t zaatarloft_raw_generate(uint8_t m, uint8_t n, uint32_t seed, uint8_t *bu
 
 uint8_t zaatarloft_raw_read_matrix_market(const uint8_t *text, size_t text_length, uint8_t *buffer, size_t buffer_length,
                                           size_t *place, size_t *written);
+
+uint8_t zaatarloft_raw_write_verilog(const uint8_t *netlist, size_t netlist_length, uint8_t *buffer, size_t buffer_length,
+                                     size_t *place, size_t *written);
 
 /* ---- The calls
  *
@@ -290,6 +296,25 @@ static inline struct zaatarloft_matrix_market zaatarloft_read_matrix_market(cons
     answer.refusal = zaatarloft_raw_read_matrix_market(zaatarloft_lent(text, text_length), text_length,
                                                        buffer_length == 0 ? &none : buffer, buffer_length, &answer.place,
                                                        &answer.written);
+    return answer;
+}
+
+struct zaatarloft_verilog {
+    uint8_t refusal;
+    size_t place;
+    size_t written; /* bytes of the buffer */
+};
+
+/* From a netlist to the text of its Verilog module `bank` (IEEE 1364-2005), in the buffer as compile leaves a netlist there: no
+ * zero byte ends it. Refusals 7 to 12, as read, then 6. */
+static inline struct zaatarloft_verilog zaatarloft_write_verilog(const uint8_t *netlist, size_t netlist_length, uint8_t *buffer,
+                                                                 size_t buffer_length)
+{
+    uint8_t none = 0;
+    struct zaatarloft_verilog answer;
+    answer.refusal = zaatarloft_raw_write_verilog(zaatarloft_lent(netlist, netlist_length), netlist_length,
+                                                  buffer_length == 0 ? &none : buffer, buffer_length, &answer.place,
+                                                  &answer.written);
     return answer;
 }
 

@@ -1,4 +1,4 @@
-//! What is measured: six calls of both sides, on spread random banks; generate on seeds of its own.
+//! What is measured: seven calls of both sides, on spread random banks; generate on seeds of its own.
 
 use cases::{bank, plain_market_file, Random};
 use reference::literal::Elimination;
@@ -17,15 +17,17 @@ pub enum Call {
     Run,
     Generate,
     ReadMatrixMarket,
+    WriteVerilog,
 }
 
-pub const CALLS: [Call; 6] = [
+pub const CALLS: [Call; 7] = [
     Call::Compile,
     Call::Read,
     Call::Check,
     Call::Run,
     Call::Generate,
     Call::ReadMatrixMarket,
+    Call::WriteVerilog,
 ];
 
 impl Call {
@@ -37,6 +39,7 @@ impl Call {
             Call::Run => "run",
             Call::Generate => "generate",
             Call::ReadMatrixMarket => "read_matrix_market",
+            Call::WriteVerilog => "write_verilog",
         }
     }
 
@@ -80,6 +83,8 @@ pub struct Input {
     /// The bank's matrix as a Matrix Market file, and its record, read from there.
     file: Vec<u8>,
     record: Vec<u8>,
+    /// Room for the netlist's Verilog text.
+    text: Vec<u8>,
     pub operations: usize,
 }
 
@@ -97,6 +102,7 @@ impl Input {
             seed: seed as u32,
             file: plain_market_file(&bank),
             record: matrix.clone(),
+            text: vec![0; zaatarloft::VERILOG_BYTES],
             matrix,
             netlist: buffer[..compiled.written].to_vec(),
             buffer,
@@ -114,36 +120,45 @@ impl Input {
 
     /// Makes one call.
     pub fn call(&mut self, call: Call, side: Side) {
-        let (matrix, netlist) = (&self.matrix, &self.netlist);
-        let (samples, outputs) = (&self.samples, &mut self.outputs);
-        let (m, n) = (matrix[4], matrix[5]);
-        let accepted = match (side, call) {
-            (Side::Verified, Call::Compile) => {
-                zaatarloft::compile(matrix, SAMPLE_WIDTH, &mut self.buffer).is_ok()
-            }
-            (Side::Verified, Call::Read) => zaatarloft::read(netlist).is_ok(),
-            (Side::Verified, Call::Check) => zaatarloft::check(matrix, netlist).is_ok(),
-            (Side::Verified, Call::Run) => zaatarloft::run(netlist, samples, outputs).is_ok(),
-            (Side::Verified, Call::Generate) => {
-                zaatarloft::generate(m, n, self.seed, &mut self.generated).is_ok()
-            }
-            (Side::Verified, Call::ReadMatrixMarket) => {
-                zaatarloft::read_matrix_market(&self.file, &mut self.record).is_ok()
-            }
-            (Side::Independent, Call::Compile) => {
-                reference::compile(matrix, SAMPLE_WIDTH, &mut self.buffer).is_ok()
-            }
-            (Side::Independent, Call::Read) => reference::read(netlist).is_ok(),
-            (Side::Independent, Call::Check) => reference::check(matrix, netlist).is_ok(),
-            (Side::Independent, Call::Run) => reference::run(netlist, samples, outputs).is_ok(),
-            (Side::Independent, Call::Generate) => {
-                reference::generate(m, n, self.seed, &mut self.generated).is_ok()
-            }
-            (Side::Independent, Call::ReadMatrixMarket) => {
-                reference::read_matrix_market(&self.file, &mut self.record).is_ok()
-            }
+        let accepted = match side {
+            Side::Verified => self.verified(call),
+            Side::Independent => self.independent(call),
         };
         assert!(accepted);
+    }
+
+    /// Whether the library accepts.
+    fn verified(&mut self, call: Call) -> bool {
+        let (matrix, netlist) = (&self.matrix, &self.netlist);
+        let (m, n) = (matrix[4], matrix[5]);
+        match call {
+            Call::Compile => zaatarloft::compile(matrix, SAMPLE_WIDTH, &mut self.buffer).is_ok(),
+            Call::Read => zaatarloft::read(netlist).is_ok(),
+            Call::Check => zaatarloft::check(matrix, netlist).is_ok(),
+            Call::Run => zaatarloft::run(netlist, &self.samples, &mut self.outputs).is_ok(),
+            Call::Generate => zaatarloft::generate(m, n, self.seed, &mut self.generated).is_ok(),
+            Call::ReadMatrixMarket => {
+                zaatarloft::read_matrix_market(&self.file, &mut self.record).is_ok()
+            }
+            Call::WriteVerilog => zaatarloft::write_verilog(netlist, &mut self.text).is_ok(),
+        }
+    }
+
+    /// Whether the independent implementation accepts.
+    fn independent(&mut self, call: Call) -> bool {
+        let (matrix, netlist) = (&self.matrix, &self.netlist);
+        let (m, n) = (matrix[4], matrix[5]);
+        match call {
+            Call::Compile => reference::compile(matrix, SAMPLE_WIDTH, &mut self.buffer).is_ok(),
+            Call::Read => reference::read(netlist).is_ok(),
+            Call::Check => reference::check(matrix, netlist).is_ok(),
+            Call::Run => reference::run(netlist, &self.samples, &mut self.outputs).is_ok(),
+            Call::Generate => reference::generate(m, n, self.seed, &mut self.generated).is_ok(),
+            Call::ReadMatrixMarket => {
+                reference::read_matrix_market(&self.file, &mut self.record).is_ok()
+            }
+            Call::WriteVerilog => reference::write_verilog(netlist, &mut self.text).is_ok(),
+        }
     }
 }
 

@@ -1,8 +1,8 @@
 //! Zaatarloft's calls for Rust: safe wrappers of the proved library.
 //!
 //! A matrix record goes in as bytes, a netlist of additions, subtractions and shifts comes out as bytes; `generate` makes
-//! matrix records from seeds, and `read_matrix_market` from Matrix Market files. The calls are proved; these wrappers are not.
-//! Each returns what document 01 says, or the refusal with its number and place.
+//! matrix records from seeds, and `read_matrix_market` from Matrix Market files; `write_verilog` makes a netlist's Verilog module.
+//! The calls are proved; these wrappers are not. Each returns what document 01 says, or the refusal with its number and place.
 //!
 //! ```
 //! let matrix = [0x0A, 0, 1, 0, 1, 2, 3, 0, 0xFD, 0xFF]; // row 3, −3
@@ -28,6 +28,9 @@ pub const NETLIST_BYTES: usize = 6137;
 
 /// So many bytes always suffice for a matrix record, of up to 8 by 8.
 pub const MATRIX_BYTES: usize = 134;
+
+/// So many bytes always suffice for the text of a Verilog module.
+pub const VERILOG_BYTES: usize = 37987;
 
 /// Why a record was declined: document 01's number and place.
 #[derive(Debug, Clone, Copy, PartialEq, Eq)]
@@ -300,6 +303,49 @@ pub fn read_matrix_market(text: &[u8], buffer: &mut [u8]) -> Result<usize, Refus
         raw::zaatarloft_raw_read_matrix_market(
             text.as_ptr(),
             text.len(),
+            buffer.as_mut_ptr(),
+            buffer.len(),
+            &mut place,
+            &mut written,
+        )
+    };
+    accepted(number, place, written)
+}
+
+/// From a netlist to the text of its Verilog module `bank` (IEEE 1364-2005), at the start of the buffer; returns the bytes written. The
+/// bytes behind them are as they were; `VERILOG_BYTES` always suffice. Refusals 7 to 12, as `read`, then 6, which leave the buffer
+/// as it was.
+///
+/// ```
+/// let matrix = [0x0A, 0, 1, 0, 1, 2, 3, 0, 0xFD, 0xFF]; // row 3, −3
+/// let mut netlist = [0; zaatarloft::NETLIST_BYTES];
+/// let compiled = zaatarloft::compile(&matrix, 16, &mut netlist)?;
+/// let mut buffer = [0; zaatarloft::VERILOG_BYTES];
+/// let written = zaatarloft::write_verilog(&netlist[..compiled.written], &mut buffer)?;
+/// let module = "\
+/// module bank (
+///   input signed [15:0] x0,
+///   input signed [15:0] x1,
+///   output signed [18:0] y0
+/// );
+///   wire signed [16:0] s2;
+///   wire signed [18:0] s3;
+///   assign s2 = (x0 <<< 0) - (x1 <<< 0);
+///   assign s3 = (s2 <<< 2) - (s2 <<< 0);
+///   assign y0 = (s3 <<< 0);
+/// endmodule
+/// ";
+/// assert_eq!(&buffer[..written], module.as_bytes());
+/// # Ok::<(), zaatarloft::Refusal>(())
+/// ```
+pub fn write_verilog(netlist: &[u8], buffer: &mut [u8]) -> Result<usize, Refusal> {
+    let mut place = 0;
+    let mut written = 0;
+    // SAFETY: both slices are valid for their lengths, the buffer for writes, and both references are to distinct numbers.
+    let number = unsafe {
+        raw::zaatarloft_raw_write_verilog(
+            netlist.as_ptr(),
+            netlist.len(),
             buffer.as_mut_ptr(),
             buffer.len(),
             &mut place,

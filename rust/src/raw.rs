@@ -89,3 +89,13 @@ extern "C" {
         written: *mut usize,
     ) -> u8;
 }
+extern "C" {
+    pub fn zaatarloft_raw_write_verilog(
+        netlist: *const u8,
+        netlist_length: usize,
+        buffer: *mut u8,
+        buffer_length: usize,
+        place: *mut usize,
+        written: *mut usize,
+    ) -> u8;
+}

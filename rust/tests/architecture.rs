@@ -20,6 +20,7 @@ const PROMISES: [(&str, &[&str]); 5] = [
             "netlist_rules/Run",
             "generator/Generator",
             "market_rules/Market",
+            "verilog_rules/Answer",
         ],
     ),
     (
@@ -32,6 +33,7 @@ const PROMISES: [(&str, &[&str]); 5] = [
             "elimination_rules/Negated",
             "generator/States",
             "market_rules/File",
+            "verilog_rules/Claim",
         ],
     ),
     (
@@ -41,6 +43,7 @@ const PROMISES: [(&str, &[&str]); 5] = [
             "netlist_rules/Tests",
             "generator/Tests",
             "market_rules/Tests",
+            "verilog_rules/Tests",
         ],
     ),
     ("kept", &["kept_rules/Kept"]),
@@ -53,6 +56,7 @@ const PROMISES: [(&str, &[&str]); 5] = [
             "check_text/CheckText",
             "generate_output/GenerateOutput",
             "market_output/MarketOutput",
+            "verilog_output/VerilogOutput",
             "burn_in_text/BurnInText",
         ],
     ),

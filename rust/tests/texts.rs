@@ -78,6 +78,7 @@ fn room_in_header() {
     for (name, bytes) in [
         ("NETLIST", zaatarloft::NETLIST_BYTES),
         ("MATRIX", zaatarloft::MATRIX_BYTES),
+        ("VERILOG", zaatarloft::VERILOG_BYTES),
     ] {
         let definition = format!("#define ZAATARLOFT_{name}_BYTES {bytes}\n");
         assert!(HEADER.contains(&definition), "{definition}");

@@ -20,6 +20,7 @@ mod refusal;
 mod run;
 mod samples;
 mod sums;
+mod verilog;
 mod width;
 
 pub use check::check;
@@ -32,3 +33,4 @@ pub use record::{step, Record};
 pub use refusal::{returned, Refusal};
 pub use run::run;
 pub use sums::{Operands, Sums};
+pub use verilog::write_verilog;

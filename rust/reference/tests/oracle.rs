@@ -14,10 +14,13 @@ use cases::{Matrix, Met, Random};
 use reference::{compile, Refusal};
 
 /// How many of the later requests are in force: the program's level.
-const REQUESTS: &str = "8";
+const REQUESTS: &str = "9";
 
 /// The bytes that suffice for every netlist.
 const ROOM: usize = 6137;
+
+/// The bytes that suffice for every Verilog text.
+const TEXT_ROOM: usize = 37_987;
 
 /// A line of a call's name and its arguments goes in, and one of the numbers of its answer or of the refusal comes out. Bytes are
 /// hexadecimal, behind a letter, since there may be none.
@@ -49,7 +52,10 @@ def generate(m, n, seed, room):
 def market(text, room):
     return 'x' + bank.market(text, room).hex(),
 
-calls = {call.__name__: call for call in (compile, read, check, run, generate, market)}
+def verilog(netlist, room):
+    return 'x' + bank.verilog(level, netlist, room).hex(),
+
+calls = {call.__name__: call for call in (compile, read, check, run, generate, market, verilog)}
 for line in sys.stdin:
     name, *words = line.split()
     arguments = [bytes.fromhex(word[1:]) if word[0] == 'x' else int(word) for word in words]
@@ -75,6 +81,7 @@ struct Bank {
     run: Met,
     generate: Met,
     market: Met,
+    verilog: Met,
 }
 
 impl Bank {
@@ -96,6 +103,7 @@ impl Bank {
             run: Met::default(),
             generate: Met::default(),
             market: Met::default(),
+            verilog: Met::default(),
         }
     }
 
@@ -174,6 +182,17 @@ impl Bank {
         let ours = ours.map(|written| bytes(&buffer[..written]));
         let number = self.ask(format!("market {} {room}", bytes(file)), ours);
         self.market.count(number);
+    }
+
+    /// Compares the Verilog text in a buffer of so many bytes, and returns the bytes written.
+    fn verilog(&mut self, netlist: &[u8], room: usize) -> usize {
+        let mut buffer = vec![0; room];
+        let ours = reference::write_verilog(netlist, &mut buffer);
+        let written = ours.unwrap_or(0);
+        let ours = ours.map(|written| bytes(&buffer[..written]));
+        let number = self.ask(format!("verilog {} {room}", bytes(netlist)), ours);
+        self.verilog.count(number);
+        written
     }
 
     fn end(self) {
@@ -379,5 +398,33 @@ fn oracle_reads_the_same_files() {
     let numbers = [0, 4, 6, 17, 18, 19];
     bank.market
         .assert_exactly("read_matrix_market", &numbers, 100);
+    bank.end();
+}
+
+/// Netlists of compile, others that are right, and damaged ones; the text's own length, and a byte less.
+#[test]
+#[ignore = "needs BANK, the path of a second program"]
+fn oracle_writes_the_same_modules() {
+    let mut bank = Bank::start();
+    each(0, count(), |random| {
+        let (matrix, width) = (any_bank(random, 8, 8), random.sample_width());
+        let most = random.choose(&[5, 30, 120, 504]);
+        let operations = random.between(0, most);
+        let any = any_netlist(random, width, matrix.m(), matrix.n(), operations);
+        let mut compiled = vec![0; ROOM];
+        let written = compile(&matrix.record(), width, &mut compiled);
+        compiled.truncate(written.unwrap().written);
+        let plain = plain_netlist(random, width, &matrix).unwrap_or_else(|| any.clone());
+        let damaged = damage(random, &compiled, &any);
+        let other_head = damage_head(random, &plain);
+        for netlist in [&compiled, &any, &plain, &damaged, &other_head] {
+            let written = bank.verilog(netlist, TEXT_ROOM);
+            for room in [written.saturating_sub(1), written, written + 1] {
+                bank.verilog(netlist, room);
+            }
+        }
+    });
+    let numbers = [0, 6, 7, 8, 9, 10, 11, 12];
+    bank.verilog.assert_exactly("write_verilog", &numbers, 1);
     bank.end();
 }

@@ -23,10 +23,10 @@ use std::path::{Path, PathBuf};
 use std::{env, fs};
 
 use case::Case;
-use matrices::{netlist, three_minus_three, MATRIX_ROOM};
+use matrices::{netlist, three_minus_three, MATRIX_ROOM, VERILOG_ROOM};
 
 /// The programs by name.
-fn programs() -> [(&'static str, Case); 9] {
+fn programs() -> [(&'static str, Case); 10] {
     [
         ("test_calls", test_calls()),
         ("test_scores", scores::test_scores()),
@@ -36,6 +36,7 @@ fn programs() -> [(&'static str, Case); 9] {
         ("check_bank", check_bank()),
         ("generate_bank", generate_bank()),
         ("matrix_market", matrix_market()),
+        ("verilog_bank", verilog_bank()),
         ("burn_in", burn_in::burn_in()),
     ]
 }
@@ -116,6 +117,18 @@ fn matrix_market() -> Case {
     Case {
         stdin: file.to_vec(),
         stdout: record,
+    }
+}
+
+/// The netlist whose module document 01 shows.
+fn verilog_bank() -> Case {
+    let netlist = include_bytes!("../../../tests/verilog/documented-module.netlist");
+    let mut text = vec![0; VERILOG_ROOM];
+    let written = reference::write_verilog(netlist, &mut text);
+    text.truncate(written.expect("a right netlist"));
+    Case {
+        stdin: netlist.to_vec(),
+        stdout: text,
     }
 }
 

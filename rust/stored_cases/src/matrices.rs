@@ -30,6 +30,9 @@ pub const ROOM: usize = 6137;
 /// The bytes that suffice for every matrix record: those of 8 by 8.
 pub const MATRIX_ROOM: usize = 134;
 
+/// The bytes that suffice for every Verilog text.
+pub const VERILOG_ROOM: usize = 37_987;
+
 /// Document 01's example.
 pub fn three_minus_three() -> Matrix {
     Matrix::of_rows(&[&[3, -3]])

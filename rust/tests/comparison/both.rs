@@ -2,7 +2,7 @@
 
 use std::fmt::Debug;
 
-use cases::Met;
+use cases::{Met, Random};
 
 /// What stands around a lent buffer, to see that nothing is written there.
 const MARGIN: usize = 32;
@@ -18,6 +18,7 @@ pub struct Both {
     step: Met,
     generate: Met,
     market: Met,
+    verilog: Met,
 }
 
 /// A refusal's number and place, of either side.
@@ -37,6 +38,11 @@ fn number<T>(answer: &Result<T, Refused>) -> u8 {
         Ok(_) => 0,
         Err((number, _)) => *number,
     }
+}
+
+/// Old bytes of a buffer, none of them 0, so that also a cleared one is seen.
+pub fn old_bytes(random: &mut Random, room: usize) -> Vec<u8> {
+    random.bytes(room).iter().map(|byte| byte | 1).collect()
 }
 
 /// Lends a call a buffer with these old contents, and returns its answer and the contents afterwards.
@@ -172,6 +178,29 @@ impl Both {
         answer.ok().map(|_| buffer[..written].to_vec())
     }
 
+    /// Writes a netlist's Verilog text into a buffer with these old bytes, and returns the text where it was accepted.
+    pub fn write_verilog(&mut self, netlist: &[u8], old: &[u8]) -> Option<Vec<u8>> {
+        let (answer, buffer) = lend(old, 0x5A, |lent| zaatarloft::write_verilog(netlist, lent));
+        let (expected, contents) = lend(old, 0x5A, |lent| reference::write_verilog(netlist, lent));
+        let (answer, expected) = (verified(answer), independent(expected));
+        let room = old.len();
+        assert_eq!(
+            answer, expected,
+            "write_verilog of {netlist:?}, {room} bytes"
+        );
+        assert!(
+            buffer == contents,
+            "buffer after {netlist:?}, {room} bytes:\n{}\nand not\n{}",
+            buffer.escape_ascii(),
+            contents.escape_ascii()
+        );
+        self.verilog.count(number(&answer));
+
+        let written = answer.unwrap_or(0);
+        assert_eq!(buffer[written..], old[written..]);
+        answer.ok().map(|_| buffer[..written].to_vec())
+    }
+
     pub fn assert_compile(&self, numbers: &[u8], least: u64) {
         self.compile.assert_exactly("compile", numbers, least);
     }
@@ -204,5 +233,9 @@ impl Both {
     pub fn assert_market(&self, numbers: &[u8], least: u64) {
         let call = "read_matrix_market";
         self.market.assert_exactly(call, numbers, least);
+    }
+
+    pub fn assert_verilog(&self, numbers: &[u8], least: u64) {
+        self.verilog.assert_exactly("write_verilog", numbers, least);
     }
 }

@@ -4,16 +4,11 @@ use std::collections::BTreeSet;
 
 use cases::{each, Random};
 
-use crate::both::Both;
+use crate::both::{old_bytes, Both};
 
 /// The bytes that suffice for every matrix record, and for every netlist.
 const RECORD: usize = zaatarloft::MATRIX_BYTES;
 const NETLIST: usize = zaatarloft::NETLIST_BYTES;
-
-/// Old bytes of a buffer, none of them 0, so that also a cleared one is seen.
-fn old_bytes(random: &mut Random, room: usize) -> Vec<u8> {
-    random.bytes(room).iter().map(|byte| byte | 1).collect()
-}
 
 /// A size within the limits.
 fn size(random: &mut Random) -> (u8, u8) {

@@ -12,3 +12,4 @@ mod netlists;
 mod no_rows;
 mod raw;
 mod records;
+mod verilog;

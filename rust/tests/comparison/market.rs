@@ -4,7 +4,7 @@
 use cases::{any_matrix, bank, damaged_market_file, each, filled, market_file, plain_market_file};
 use cases::{Matrix, Random};
 
-use crate::both::Both;
+use crate::both::{old_bytes, Both};
 
 /// The bytes that suffice for every matrix record, and for every netlist.
 const RECORD: usize = zaatarloft::MATRIX_BYTES;
@@ -12,11 +12,6 @@ const NETLIST: usize = zaatarloft::NETLIST_BYTES;
 
 /// The first line of every file.
 const FIRST: &str = "%%MatrixMarket matrix array integer general\n";
-
-/// Old bytes of a buffer, none of them 0, so that also a cleared one is seen.
-fn old_bytes(random: &mut Random, room: usize) -> Vec<u8> {
-    random.bytes(room).iter().map(|byte| byte | 1).collect()
-}
 
 /// A matrix of this size with coefficients of all sizes, or with the ends and the middle of the range alone.
 fn matrix_of_size(random: &mut Random, m: usize, n: usize) -> Matrix {

@@ -6,11 +6,12 @@ use cases::{plain_netlist, Matrix, Random};
 use crate::both::Both;
 
 /// What each call may answer to a netlist of any bytes and a right matrix record.
-const READ: [u8; 7] = [0, 7, 8, 9, 10, 11, 12];
+pub const READ: [u8; 7] = [0, 7, 8, 9, 10, 11, 12];
 const CHECK: [u8; 9] = [0, 7, 8, 9, 10, 11, 12, 13, 14];
 const RUN: [u8; 10] = [0, 7, 8, 9, 10, 11, 12, 15, 16, 21];
 
-fn compiled(matrix: &Matrix, width: u8) -> Vec<u8> {
+/// The netlist of a matrix for samples of so many bits.
+pub fn compiled(matrix: &Matrix, width: u8) -> Vec<u8> {
     let mut netlist = vec![0; zaatarloft::NETLIST_BYTES];
     let compiled = reference::compile(&matrix.record(), width, &mut netlist);
     netlist.truncate(compiled.unwrap().written);
@@ -18,7 +19,7 @@ fn compiled(matrix: &Matrix, width: u8) -> Vec<u8> {
 }
 
 /// A netlist of any of the three kinds, for samples of any width.
-fn netlist(random: &mut Random, matrix: &Matrix) -> Vec<u8> {
+pub fn netlist(random: &mut Random, matrix: &Matrix) -> Vec<u8> {
     let (most, width) = (random.choose(&[5, 30, 120]), random.sample_width());
     let operations = random.between(0, most);
     match random.between(0, 2) {

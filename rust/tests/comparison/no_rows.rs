@@ -29,6 +29,17 @@ fn buffers_of_every_length() {
     both.assert_compile(&[0, 6], 17 * 16);
 }
 
+#[test]
+fn modules_in_buffers_of_every_length() {
+    let mut both = Both::default();
+    for (width, room) in (8..=24).flat_map(|width| (0..=40).map(move |room| (width, room))) {
+        let text = both.write_verilog(&netlist_of_width(width), &vec![0xA5; room]);
+        let expected = b"module bank ();\nendmodule\n".to_vec();
+        assert_eq!(text, (room >= expected.len()).then_some(expected));
+    }
+    both.assert_verilog(&[0, 6], 17 * 15);
+}
+
 /// One to five bytes, and six with every m and n.
 #[test]
 fn few_bytes() {
@@ -93,6 +104,8 @@ fn every_byte_changed() {
     for netlist in others() {
         both.read(&netlist);
         both.sample_width(&netlist);
+        both.write_verilog(&netlist, &[0xA5; 26]);
+        both.write_verilog(&netlist, &[0xA5; 25]);
         both.check(&[], &netlist);
         both.check(&row, &netlist);
         for samples in 0..=10 {
@@ -103,6 +116,7 @@ fn every_byte_changed() {
     }
     both.assert_read(&[0, 7, 8, 9, 11, 12], 16);
     both.assert_sample_width(&[0, 7, 8, 9, 11, 12], 16);
+    both.assert_verilog(&[0, 6, 7, 8, 9, 11, 12], 16);
     both.assert_check(&[0, 7, 8, 9, 11, 12, 13], 16);
     both.assert_run(&[0, 7, 8, 9, 11, 12, 15, 16], 16);
 }
@@ -145,6 +159,10 @@ fn nothing_in_hand() {
         assert_eq!(compiled.map(drop).map_err(number), Err(6));
         assert_eq!(zaatarloft::read(matrix).map(drop).map_err(number), Err(7));
         assert_eq!(zaatarloft::sample_width(matrix).map_err(number), Err(7));
+        let written = zaatarloft::write_verilog(matrix, &mut Vec::new());
+        assert_eq!(written.map_err(number), Err(7));
+        let written = zaatarloft::write_verilog(&buffer, &mut Vec::new());
+        assert_eq!(written.map_err(number), Err(6));
         let stepped = zaatarloft::step(matrix, 0);
         assert_eq!(stepped.map(drop).map_err(number), Err(7));
     }

@@ -7,7 +7,7 @@ use reference::returned;
 use zaatarloft::raw::{
     zaatarloft_raw_compile, zaatarloft_raw_generate, zaatarloft_raw_read,
     zaatarloft_raw_read_matrix_market, zaatarloft_raw_run, zaatarloft_raw_sample_width,
-    zaatarloft_raw_step,
+    zaatarloft_raw_step, zaatarloft_raw_write_verilog,
 };
 
 /// A netlist for samples of so many bits, with its m and n.
@@ -229,4 +229,30 @@ fn numbers_of_read_matrix_market() {
         });
     });
     met.assert_exactly("read_matrix_market", &[0, 4, 6, 17, 18, 19], 500);
+}
+
+#[test]
+fn numbers_of_write_verilog() {
+    let mut met = Met::default();
+    each(36_000_000, 20_000, |random| {
+        let width = random.sample_width();
+        let (right, _, _) = small_netlist(random, width);
+        let netlist = match random.between(0, 1) {
+            0 => damage(random, &right, &right),
+            _ => right,
+        };
+        let room = random.between(0, 1_500);
+        let call = |buffer: &mut [u8], place: &mut usize, written: &mut usize| {
+            let (bytes, bytes_length) = (netlist.as_ptr(), netlist.len());
+            let (start, length) = (buffer.as_mut_ptr(), buffer.len());
+            // SAFETY: both slices are valid for their lengths and distinct, as are the numbers.
+            unsafe {
+                zaatarloft_raw_write_verilog(bytes, bytes_length, start, length, place, written)
+            }
+        };
+        compare_written(&mut met, room, call, |buffer| {
+            reference::write_verilog(&netlist, buffer)
+        });
+    });
+    met.assert_exactly("write_verilog", &[0, 6, 7, 8, 9, 10, 11, 12], 100);
 }
