@@ -13,7 +13,7 @@ use Rattle.text.specs.Wrote.{Wrote}
 use Rattle.text.proofs.Wrote.{wrote-as, wrote-copy}
 use Rattle.verilog_rules.specs.declared.VerilogAnswer.{VerilogAnswer}
 use Rattle.verilog_rules.specs.Answer.{netlistText, verilogRefused, verilogAnswer, verilogBuffer}
-use Rattle.verilog_rules.proofs.AnswerLaws.{verilogAccepted, answer-refused, buffer-refused, answer-read, answer-short, answer-room, buffer-read, buffer-short, buffer-room}
+use Rattle.verilog_rules.proofs.AnswerLaws.{answer-refused, buffer-refused, answer-read, answer-short, answer-room, buffer-read, buffer-short, buffer-room}
 
 module _ (b buffer : List ℕ) where
   -- the answer, and the buffer afterwards

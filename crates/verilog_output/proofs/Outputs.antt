@@ -18,7 +18,7 @@ use Rattle.text.specs.Text.{refusedLine}
 use Rattle.text.specs.Wrote.{Wrote}
 use Rattle.text.proofs.Wrote.{wrote-as}
 use Rattle.verilog_rules.specs.declared.VerilogAnswer.{VerilogAnswer}
-use Rattle.verilog_rules.specs.Answer.{netlistText, enoughText, verilogRefused, verilogAnswer, verilogBuffer}
+use Rattle.verilog_rules.specs.Answer.{netlistText, enoughText, verilogAnswer, verilogBuffer}
 use Rattle.verilog_rules.proofs.AnswerLaws.{verilogAccepted, answer-refused, buffer-refused, verilog-writes, always-enough}
 use Rattle.verilog_output.specs.VerilogOutput.{verilogOutput}
 

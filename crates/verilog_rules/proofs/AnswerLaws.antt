@@ -1,8 +1,8 @@
 -- write_verilog returns the number and the place of the first of its tests that fails and leaves the buffer as it was, or writes the text
 -- of the netlist's module; and so much room always suffices.
 -- Assumes nothing.
-use Prim.Native.Nat.{ℕ, zero, suc, _<_, _≤_}
-use mathlib.Core.Path.{_≡_, refl, sym, _∙_, ap, subst}
+use Prim.Native.Nat.{ℕ, _<_, _≤_}
+use mathlib.Core.Path.{_≡_, refl, sym, _∙_, ap}
 use mathlib.Core.Bool.{Bool, true, false}
 use mathlib.Core.Logic.{_↔_, inl, inr}
 use mathlib.Core.List.{List, [], _∷_, _++_, map}
@@ -13,7 +13,7 @@ use lib.ListN.{length, drop}
 use borrow.Author.Tests.{lt-ltb, le-ltb, ltb-true, ltb-false}
 use Rattle.layout_rules.specs.Records.{Netlist}
 use Rattle.layout_rules.specs.Places.{netlistIn}
-use Rattle.layout_rules.specs.Tests.{Test, tested, AllPass, FirstFails}
+use Rattle.layout_rules.specs.Tests.{tested, AllPass, FirstFails}
 use Rattle.layout_rules.proofs.LittleEndian.{AreBytes}
 use Rattle.layout_rules.proofs.TestLaws.{Decided, behind-fault, declined-first, passed-all, all-split}
 use Rattle.board_rules.specs.Width.{Samples}

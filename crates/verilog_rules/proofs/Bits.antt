@@ -12,7 +12,7 @@ use Rattle.integers.proofs.Expression.{at, nat, minus, _⊕_, _⊝_, _⊗_, equ
 use Rattle.integers.proofs.Congruence.{Congruent, congruent-trans, congruent-sym, congruent-divisor}
 use Rattle.board_rules.specs.Width.{Within}
 use Rattle.board_rules.proofs.WidthLaws.{Between, within-between}
-use Rattle.verilog_rules.specs.Meaning.{modulo, twosComplement, value, Signal, signal}
+use Rattle.verilog_rules.specs.Meaning.{modulo, twosComplement, value, signal}
 
 -- ---- powers of two as moduli
 

@@ -15,7 +15,7 @@ use Rattle.netlist_rules.specs.Exact.{IsNetlistOf}
 use Rattle.bank_rules.specs.Claim.{MatrixWithinLimits, bytesWritten}
 use Rattle.bank_rules.proofs.Claim.{not-refused, bytes-written, compiled-netlist-of}
 use Rattle.verilog_rules.specs.Module.{wireOf, outputOf, moduleOf}
-use Rattle.verilog_rules.specs.Meaning.{Signal, assigned}
+use Rattle.verilog_rules.specs.Meaning.{assigned}
 use Rattle.verilog_rules.specs.Standard.{assignedByStandard}
 use Rattle.verilog_rules.specs.Answer.{netlistText, enoughText}
 use Rattle.verilog_rules.specs.Claim.{WrittenModule}

@@ -17,7 +17,7 @@ use Rattle.text.specs.Decimal.{number}
 use Rattle.text.specs.Text.{ascii, lines}
 use Rattle.text.proofs.Decimal.{length-number}
 use Rattle.text.proofs.Lines.{lines-map, length-lines}
-use Rattle.verilog_rules.specs.Module.{Operand, operand, Assignment, joinedOperands, signedOperand, wireOf, outputOf, moduleOf}
+use Rattle.verilog_rules.specs.Module.{Operand, operand, Assignment, joinedOperands, signedOperand, wireOf, outputOf}
 use Rattle.verilog_rules.specs.Text.{portEnd, inputLine, outputLine, firstLine, wireLine, name, operandText, expressionText, wireAssignment, outputAssignment, moduleText}
 use Rattle.verilog_rules.specs.Answer.{netlistText, textRoom, enoughText}
 

@@ -1,5 +1,5 @@
 -- `verilog::write_assignments` meets its contract. Assumes nothing.
-use mathlib.Core.Path.{refl, ap}
+use mathlib.Core.Path.{ap}
 use native.Mathlib.Omega.{arith}
 use lib.ListN.{length-take, length-drop}
 use Rattle.layout_rules.specs.declared.Head.{Head}

@@ -1,5 +1,5 @@
 -- `verilog::write_inputs` meets its contract. The loop's invariant: what is written and the lines left make the whole. Assumes nothing.
-use Prim.Native.Nat.{ℕ, _+_, _*_, _-_, _≤_}
+use Prim.Native.Nat.{_+_, _*_, _-_, _≤_}
 use mathlib.Core.Path.{_≡_, refl}
 use native.Mathlib.Omega.{arith}
 use lib.ListN.{length, replicate, length-take, length-drop, length-replicate, getD-replicate}

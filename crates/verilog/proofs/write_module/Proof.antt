@@ -7,7 +7,6 @@ use lib.ListN.{length-take, length-drop}
 use Rattle.limits.specs.Limits.{maxRows, maxColumns, maxOperations}
 use Rattle.layout_rules.specs.declared.Head.{Head}
 use Rattle.layout_rules.specs.Places.{netlistIn, headAt}
-use Rattle.netlist_read.specs.Tables.{NetlistRead}
 use Rattle.netlist_read.proofs.NetlistLaws.{head-limits, head-there}
 use Rattle.text.specs.Text.{ascii}
 use Rattle.text.proofs.Wrote.{wrote-as, wrote-copy, wrote-more}
