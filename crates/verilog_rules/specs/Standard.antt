@@ -1,6 +1,6 @@
 -- IEEE 1364-2005, sections 3 to 5, for the operators that a module uses: how wide and of which sign an expression is worked out, and how
 -- it is written. The sentence on w (Meaning) is this rule, and the text of an assignment (Text) is so written; proofs/StandardLaws.antt
--- has the laws.
+-- has the laws. Sections are cited from memory.
 -- Assumes nothing.
 use Prim.Native.Nat.{ℕ, _*_, _^_, max}
 use mathlib.Core.Bool.{Bool, true, _&&_, cond}
