@@ -1,5 +1,5 @@
 /* A channel with no bank: its matrix file has no bytes. Compiles what the file named holds, or no bytes where none is named, then
- * reads, checks and runs the netlist and writes its Verilog module. Where a length is 0 it lends NULL.
+ * reads, checks and runs the netlist, writes its Verilog module and clocks an empty list. Where a length is 0 it lends NULL.
  *
  *     rt staticlib zaatarloft
  *     cc -I include examples/no-bank.c -L target/staticlib -lzaatarloft -o no-bank
@@ -53,6 +53,12 @@ static void compile_and_run(const uint8_t *matrix, size_t length)
     struct zaatarloft_verilog verilog = zaatarloft_write_verilog(netlist, compiled.written, text, sizeof text);
     print_refusal("write_verilog", verilog.refusal, verilog.place);
     fwrite(text, 1, verilog.written, stdout);
+
+    struct zaatarloft_register_total total = zaatarloft_registers(netlist, compiled.written);
+    print_refusal("registers", total.refusal, total.place);
+    printf("%zu registers\n", total.registers);
+    struct zaatarloft_clocked clocked = zaatarloft_clock(netlist, compiled.written, NULL, 0, NULL, 0, NULL, 0);
+    print_refusal("clock", clocked.refusal, clocked.place);
 }
 
 /* Every call, lent nothing at all. */
@@ -77,6 +83,10 @@ static void lend_nothing(void)
     print_refusal("read_matrix_market of no bytes", matrix.refusal, matrix.place);
     struct zaatarloft_verilog verilog = zaatarloft_write_verilog(NULL, 0, NULL, 0);
     print_refusal("write_verilog of no bytes", verilog.refusal, verilog.place);
+    struct zaatarloft_register_total total = zaatarloft_registers(NULL, 0);
+    print_refusal("registers of no bytes", total.refusal, total.place);
+    struct zaatarloft_clocked clocked = zaatarloft_clock(NULL, 0, NULL, 0, NULL, 0, NULL, 0);
+    print_refusal("clock no bytes", clocked.refusal, clocked.place);
 }
 
 int main(int argc, char **argv)

@@ -1,18 +1,19 @@
-/* Zaatarloft's calls for C and C++: compile, read, sample_width, check, run, step, generate, read_matrix_market and
- * write_verilog, as docs/SPECIFICATION.md has them, which is cited as document 01.
+/* Zaatarloft's calls for C and C++: compile, read, sample_width, check, run, step, generate, read_matrix_market,
+ * write_verilog, registers and clock, as docs/SPECIFICATION.md has them, which is cited as document 01.
  * The library is target/staticlib/libzaatarloft.a, for x86-64 Linux; `rt staticlib zaatarloft` proves and builds it.
  *
  * Every call returns its answer as a struct: the refusal's number, 0 where it accepts, its place, then the other numbers, which
  * are 0 where it refuses. An accepted call has place 0. Use these calls and not the raw functions under them: a later version
  * may add numbers to an answer, which changes the raw functions' parameters and leaves the source of callers valid.
- * A call lent anything at all ends, reads only what is lent, and writes only the buffer or outputs lent.
+ * A call lent anything at all ends, reads only what is lent, and writes only the buffer, outputs or store lent.
  *
- * What the caller owes: each pointer is aligned and valid for its length, which counts bytes, samples or outputs; what is lent
- * to be written overlaps nothing else that is lent to the same call; and nobody else writes what is lent while the call runs.
+ * What the caller owes: each pointer is aligned and valid for its length, which counts bytes, samples, outputs or a store's
+ * numbers; what is lent to be written overlaps nothing else that is lent to the same call; and nobody else writes what is lent
+ * while the call runs.
  * A call may be lent NULL where the length is 0, as an empty file, an empty std::vector or malloc(0) may give it; a raw function
  * never.
- * A call keeps no pointer and uses no memory but its stack: a stack of 128 KB was enough for compile and write_verilog, and
- * 48 KB for the others.
+ * A call keeps no pointer and uses no memory but its stack: a stack of 128 KB was enough for compile and write_verilog, 96 KB
+ * for clock, 64 KB for registers, and 48 KB for the others.
  *
  * Request A8, samples of 8 to 24 bits: what a host has to change that was written when all had 16.
  * - zaatarloft_compile has a parameter more, the sample width, behind the matrix. Pass 16: the netlist has the bytes of before.
@@ -61,7 +62,7 @@ static inline const char *zaatarloft_refusal_words(uint8_t refusal)
     case 5: /* place 0 */
         return "the matrix's length is not 6 + 2 times m times n";
     case 6: /* place 0 */
-        return "output buffer shorter than the netlist, the matrix record or the Verilog text";
+        return "output buffer shorter than the netlist, the matrix record or the Verilog text, or store than the registers";
     case 7: /* record's start */
         return "under 4 bytes remain, or the length exceeds what remains";
     case 8: /* record's start */
@@ -81,9 +82,9 @@ static inline const char *zaatarloft_refusal_words(uint8_t refusal)
     case 14: /* place = row, from 0 */
         return "lowest row whose coefficients differ";
     case 15: /* place 0 */
-        return "samples are not n";
+        return "samples are not n, or for clock not whole vectors";
     case 16: /* place 0 */
-        return "outputs lent are not m";
+        return "outputs lent are not m, or for clock not m for each vector";
     case 17: /* line's start, or the file's end */
         return "the Matrix Market file's first line or size line is missing or has another form";
     case 18: /* first surplus line's start, or the file's end */
@@ -129,6 +130,11 @@ uint8_t zaatarloft_raw_read_matrix_market(const uint8_t *text, size_t text_lengt
 
 uint8_t zaatarloft_raw_write_verilog(const uint8_t *netlist, size_t netlist_length, uint8_t *buffer, size_t buffer_length,
                                      size_t *place, size_t *written);
+
+uint8_t zaatarloft_raw_registers(const uint8_t *netlist, size_t netlist_length, size_t *place, size_t *registers);
+
+uint8_t zaatarloft_raw_clock(const uint8_t *netlist, size_t netlist_length, const int32_t *samples, size_t samples_length,
+                             int64_t *store, size_t store_length, int64_t *outputs, size_t outputs_length, size_t *place);
 
 /* ---- The calls
  *
@@ -316,6 +322,49 @@ static inline struct zaatarloft_verilog zaatarloft_write_verilog(const uint8_t *
     answer.refusal = zaatarloft_raw_write_verilog(zaatarloft_lent(netlist, netlist_length), netlist_length,
                                                   buffer_length == 0 ? &none : buffer, buffer_length, &answer.place,
                                                   &answer.written);
+    return answer;
+}
+
+struct zaatarloft_register_total {
+    uint8_t refusal;
+    size_t place;
+    size_t registers;
+};
+
+/* How many registers a netlist's clocked form has: one for each operation, and for each symbol as many as its longest delay. So
+ * many numbers zaatarloft_clock needs in the store. Refusals 7 to 12, as read. */
+static inline struct zaatarloft_register_total zaatarloft_registers(const uint8_t *netlist, size_t netlist_length)
+{
+    struct zaatarloft_register_total answer;
+    answer.refusal = zaatarloft_raw_registers(zaatarloft_lent(netlist, netlist_length), netlist_length, &answer.place,
+                                              &answer.registers);
+    return answer;
+}
+
+struct zaatarloft_clocked {
+    uint8_t refusal;
+    size_t place;
+};
+
+/* Clocks a whole list of vectors through a netlist, n samples a clock, each of which fits the netlist's sample width, and fills m
+ * outputs a clock. The first outputs are zero, for as many clocks as the netlist is deep; from there on a clock has run's outputs
+ * for the vector of so many clocks before.
+ * The registers are the first numbers of the store. The call clears them, also for an empty list, and leaves them as they are
+ * after the last clock: the operations' by symbol, then each symbol's delays by symbol, newest first. The rest of the store stays
+ * as it was, and so do store and outputs where it refuses. Refusals 7 to 12, as read, then 6, 15, 16, 21; the place of 21 is the
+ * index in the whole list. */
+static inline struct zaatarloft_clocked zaatarloft_clock(const uint8_t *netlist, size_t netlist_length, const int32_t *samples,
+                                                         size_t samples_length, int64_t *store, size_t store_length,
+                                                         int64_t *outputs, size_t outputs_length)
+{
+    int32_t no_sample = 0;
+    int64_t no_register = 0;
+    int64_t no_output = 0;
+    struct zaatarloft_clocked answer;
+    answer.refusal = zaatarloft_raw_clock(zaatarloft_lent(netlist, netlist_length), netlist_length,
+                                          samples_length == 0 ? &no_sample : samples, samples_length,
+                                          store_length == 0 ? &no_register : store, store_length,
+                                          outputs_length == 0 ? &no_output : outputs, outputs_length, &answer.place);
     return answer;
 }
 

@@ -1,4 +1,4 @@
-//! What is measured: seven calls of both sides, on spread random banks; generate on seeds of its own.
+//! What is measured: nine calls of both sides, on spread random banks; generate on seeds of its own, clock on lists of vectors.
 
 use cases::{bank, plain_market_file, Random};
 use reference::literal::Elimination;
@@ -9,6 +9,9 @@ pub const NETLIST_ROOM: usize = zaatarloft::NETLIST_BYTES;
 /// The bits of the samples that all banks are compiled for.
 pub const SAMPLE_WIDTH: u8 = 16;
 
+/// The vectors of clock's list in the tables of all calls.
+pub const VECTORS: usize = 1_000;
+
 #[derive(Clone, Copy, Debug, PartialEq, Eq)]
 pub enum Call {
     Compile,
@@ -18,9 +21,12 @@ pub enum Call {
     Generate,
     ReadMatrixMarket,
     WriteVerilog,
+    Registers,
+    /// On a list of so many vectors.
+    Clock(usize),
 }
 
-pub const CALLS: [Call; 7] = [
+pub const CALLS: [Call; 9] = [
     Call::Compile,
     Call::Read,
     Call::Check,
@@ -28,6 +34,8 @@ pub const CALLS: [Call; 7] = [
     Call::Generate,
     Call::ReadMatrixMarket,
     Call::WriteVerilog,
+    Call::Registers,
+    Call::Clock(VECTORS),
 ];
 
 impl Call {
@@ -40,6 +48,16 @@ impl Call {
             Call::Generate => "generate",
             Call::ReadMatrixMarket => "read_matrix_market",
             Call::WriteVerilog => "write_verilog",
+            Call::Registers => "registers",
+            Call::Clock(_) => "clock",
+        }
+    }
+
+    /// How many vectors it takes from a list.
+    pub fn vectors(self) -> usize {
+        match self {
+            Call::Clock(vectors) => vectors,
+            _ => 0,
         }
     }
 
@@ -85,18 +103,24 @@ pub struct Input {
     record: Vec<u8>,
     /// Room for the netlist's Verilog text.
     text: Vec<u8>,
+    /// Vectors for clock, room for the outputs of all of them, and as many registers as the bank has.
+    list: Vec<i32>,
+    list_outputs: Vec<i64>,
+    store: Vec<i64>,
     pub operations: usize,
 }
 
 impl Input {
-    /// A random bank of m rows, n columns and coefficients of so many bits.
-    pub fn of_seed(seed: u64, m: usize, n: usize, bits: u32) -> Self {
+    /// A random bank of m rows, n columns and coefficients of so many bits, with a list of so many vectors.
+    pub fn of_seed(seed: u64, m: usize, n: usize, bits: u32, vectors: usize) -> Self {
         let mut random = Random::new(seed);
         let bank = bank(&mut random, m, n, bits);
         let matrix = bank.record();
         let mut buffer = vec![0; NETLIST_ROOM];
         let compiled = reference::compile(&matrix, SAMPLE_WIDTH, &mut buffer);
         let compiled = compiled.expect("a right record");
+        let netlist = buffer[..compiled.written].to_vec();
+        let registers = reference::registers(&netlist).expect("a right netlist");
         Input {
             generated: matrix.clone(),
             seed: seed as u32,
@@ -104,12 +128,20 @@ impl Input {
             record: matrix.clone(),
             text: vec![0; zaatarloft::VERILOG_BYTES],
             matrix,
-            netlist: buffer[..compiled.written].to_vec(),
+            netlist,
             buffer,
             samples: random.samples(SAMPLE_WIDTH, n),
             outputs: vec![0; m],
+            list: random.samples(SAMPLE_WIDTH, vectors * n),
+            list_outputs: vec![0; vectors * m],
+            store: vec![0; registers],
             operations: usize::from(compiled.operations),
         }
+    }
+
+    /// How many registers the bank's clocked form has: those of the operations, and the delays.
+    pub fn registers(&self) -> usize {
+        self.store.len()
     }
 
     /// How many occurrences elimination touches: those of the matrix's rows, and those that its steps take away or make.
@@ -141,6 +173,12 @@ impl Input {
                 zaatarloft::read_matrix_market(&self.file, &mut self.record).is_ok()
             }
             Call::WriteVerilog => zaatarloft::write_verilog(netlist, &mut self.text).is_ok(),
+            Call::Registers => zaatarloft::registers(netlist).is_ok(),
+            Call::Clock(vectors) => {
+                let samples = &self.list[..vectors * usize::from(n)];
+                let outputs = &mut self.list_outputs[..vectors * usize::from(m)];
+                zaatarloft::clock(netlist, samples, &mut self.store, outputs).is_ok()
+            }
         }
     }
 
@@ -158,6 +196,12 @@ impl Input {
                 reference::read_matrix_market(&self.file, &mut self.record).is_ok()
             }
             Call::WriteVerilog => reference::write_verilog(netlist, &mut self.text).is_ok(),
+            Call::Registers => reference::registers(netlist).is_ok(),
+            Call::Clock(vectors) => {
+                let samples = &self.list[..vectors * usize::from(n)];
+                let outputs = &mut self.list_outputs[..vectors * usize::from(m)];
+                reference::clock(netlist, samples, &mut self.store, outputs).is_ok()
+            }
         }
     }
 }

@@ -2,6 +2,7 @@
 
 mod burn_in;
 mod depths;
+mod lists;
 mod machine;
 mod occurrences;
 mod programs;
@@ -13,6 +14,7 @@ use std::path::{Path, PathBuf};
 use std::{env, fs};
 
 use bench::{Call, CALLS, SIDES};
+use lists::{List, LISTS};
 use programs::Figures;
 use times::{Banks, Times};
 
@@ -20,7 +22,7 @@ use times::{Banks, Times};
 const BEGIN: &str = "<!-- measured: begin -->";
 const END: &str = "<!-- measured: end -->";
 
-/// Sizes and coefficient sizes that are measured: growing banks, then growing coefficients. The last is the largest.
+/// Sizes and coefficient sizes that are measured: growing banks, then growing coefficients.
 const MEASURED: [(usize, u32); 11] = [
     (1, 16),
     (2, 16),
@@ -32,8 +34,9 @@ const MEASURED: [(usize, u32); 11] = [
     (8, 4),
     (8, 8),
     (8, 12),
-    (8, 16),
+    LARGEST,
 ];
+const LARGEST: (usize, u32) = (8, 16);
 
 const ROUNDS: usize = 15;
 const BANKS: usize = 21;
@@ -72,10 +75,12 @@ fn main() {
     let folder = program.parent().expect("this program's folder");
     let machine = machine::description(&root);
 
-    let banks = |(size, bits)| Banks::new(size, size, bits, BANKS, &CALLS);
+    let banks = |(size, bits)| Banks::new(size, size, bits, BANKS, &calls_on(size, bits));
     let mut all = MEASURED.map(banks);
     times::measure(&mut all, ROUNDS);
-    let calls = CALLS.map(|call| all[MEASURED.len() - 1].times(call));
+    let largest = &all[MEASURED.len() - 1];
+    let calls = CALLS.map(|call| largest.times(call));
+    let lists = LISTS.map(|vectors| List::of(vectors, largest));
     let growth = |(&(size, bits), banks)| Growth::of(size, bits, banks, folder);
     let growths: Vec<Growth> = MEASURED.iter().zip(&all).map(growth).collect();
     let sizes: Vec<&Growth> = growths.iter().filter(|g| g.bits == 16).collect();
@@ -94,6 +99,7 @@ fn main() {
         format!("{} bits", g.bits)
     });
     tables::touched(&mut text, &sizes);
+    tables::lists(&mut text, largest, &lists);
     tables::burn_in(&mut text, &burn_in);
     let drawn = depths::drawn();
     tables::depths(&mut text, &drawn);
@@ -103,6 +109,16 @@ fn main() {
     tables::absolute(&mut text, &calls, &instructions, &machine);
     replace_measured(&root.join("docs/BENCHMARKS.md"), &text);
     println!("{text}");
+}
+
+/// The calls that are measured on banks of a size and coefficient size: on the largest all, and clock on every list.
+fn calls_on(size: usize, bits: u32) -> Vec<Call> {
+    if (size, bits) != LARGEST {
+        return vec![Call::Compile, Call::Read];
+    }
+    let lists = LISTS.into_iter().map(Call::Clock);
+    let other_lists = lists.filter(|call| !CALLS.contains(call));
+    CALLS.into_iter().chain(other_lists).collect()
 }
 
 fn replace_measured(path: &Path, measured: &str) {

@@ -2,12 +2,13 @@
 
 use std::fmt::Write;
 
-use bench::CALLS;
+use bench::{Call, CALLS, VECTORS};
 
 use crate::depths::{mean, Totals, METHODS};
+use crate::lists::List;
 use crate::programs::{Figures, Memory};
 use crate::text::{seconds, thousands};
-use crate::times::Times;
+use crate::times::{Banks, Times};
 use crate::Growth;
 
 fn row(text: &mut String, cells: &[String]) {
@@ -25,9 +26,16 @@ fn header(text: &mut String, cells: &[&str]) {
     let _ = writeln!(text, "|{}", "---|".repeat(cells.len()));
 }
 
+/// What the tables of all calls say of clock.
+fn list_lent() -> String {
+    format!("clock on a list of {} vectors", thousands(VECTORS as f64))
+}
+
 pub fn ratios(text: &mut String, calls: &[Times], instructions: &Figures<f64>) {
-    text.push_str(
-        "## Ratios, verified to independent\n\nRandom 8 by 8 banks of 16-bit coefficients.\n\n",
+    let _ = writeln!(
+        text,
+        "## Ratios, verified to independent\n\nRandom 8 by 8 banks of 16-bit coefficients; {}.\n",
+        list_lent(),
     );
     header(text, &["Call", "Time", "Instructions"]);
     for (call, times) in CALLS.into_iter().zip(calls) {
@@ -81,6 +89,40 @@ pub fn touched(text: &mut String, rows: &[&Growth]) {
             thousands(growth.touched),
             thousands(instructions),
             thousands(instructions / growth.touched),
+        ];
+        row(text, &cells);
+    }
+    text.push('\n');
+}
+
+/// What a vector costs in lists of several lengths, on these banks.
+pub fn lists(text: &mut String, banks: &Banks, lists: &[List]) {
+    let _ = writeln!(
+        text,
+        "## One vector every clock\n\nRandom 8 by 8 banks of 16-bit coefficients. Medians over the banks, each by itself: {} operations, \
+         {} delays, {} registers.\n",
+        banks.operations(),
+        banks.delays(),
+        banks.registers(),
+    );
+    let columns = [
+        "Vectors",
+        "clock: time for each vector, ratio",
+        "verified",
+        "independent",
+        "run: time, verified",
+        "run to clock, verified",
+    ];
+    header(text, &columns);
+    let run = seconds(banks.times(Call::Run).verified);
+    for list in lists {
+        let cells = [
+            thousands(list.vectors as f64),
+            format!("{:.2}", list.clock.ratio),
+            seconds(list.clock.verified),
+            seconds(list.clock.independent),
+            run.clone(),
+            format!("{:.1}", list.run_to_clock),
         ];
         row(text, &cells);
     }
@@ -158,7 +200,11 @@ pub fn negated_outputs(text: &mut String, rows: &[(String, Totals)]) {
 }
 
 pub fn memory(text: &mut String, memory: &Figures<Memory>) {
-    text.push_str("## Memory\n\nThe most over 20 of the 8 by 8 banks, in bytes.\n\n");
+    let _ = writeln!(
+        text,
+        "## Memory\n\nThe most over 20 of the 8 by 8 banks, in bytes; {}.\n",
+        list_lent(),
+    );
     let columns = [
         "Stack, verified",
         "Stack, independent",
@@ -182,7 +228,11 @@ pub fn memory(text: &mut String, memory: &Figures<Memory>) {
 
 pub fn absolute(text: &mut String, calls: &[Times], instructions: &Figures<f64>, machine: &str) {
     let _ = writeln!(text, "## Absolute figures\n\n{machine}\n");
-    text.push_str("Random 8 by 8 banks of 16-bit coefficients, one call.\n\n");
+    let _ = writeln!(
+        text,
+        "Random 8 by 8 banks of 16-bit coefficients, one call; {}.\n",
+        list_lent(),
+    );
     let columns = [
         "Time, verified",
         "Time, independent",

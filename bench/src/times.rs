@@ -31,7 +31,8 @@ struct Measured {
 impl Banks {
     /// So many banks, for these calls to be measured on.
     pub fn new(m: usize, n: usize, bits: u32, count: usize, calls: &[Call]) -> Self {
-        let input = |seed| Input::of_seed(seed, m, n, bits);
+        let vectors = calls.iter().map(|call| call.vectors()).max().unwrap_or(0);
+        let input = |seed| Input::of_seed(seed, m, n, bits, vectors);
         let mut inputs: Vec<Input> = seeds(count).map(input).collect();
         let mut measured = Vec::new();
         for &call in calls {
@@ -49,7 +50,21 @@ impl Banks {
 
     /// The median number of operations.
     pub fn operations(&self) -> f64 {
-        median(self.inputs.iter().map(|i| i.operations as f64).collect())
+        self.median_of(|input| input.operations)
+    }
+
+    /// The median number of registers.
+    pub fn registers(&self) -> f64 {
+        self.median_of(|input| input.registers())
+    }
+
+    /// The median number of registers that are delays.
+    pub fn delays(&self) -> f64 {
+        self.median_of(|input| input.registers() - input.operations)
+    }
+
+    fn median_of(&self, number: impl Fn(&Input) -> usize) -> f64 {
+        median(self.inputs.iter().map(|i| number(i) as f64).collect())
     }
 
     /// Measures every call on every bank once more, both sides in turn.
@@ -64,15 +79,27 @@ impl Banks {
         }
     }
 
+    /// A call's medians over the rounds, on each bank in turn.
+    fn medians(&self, call: Call) -> Vec<[f64; 2]> {
+        let of_call = self.measured.iter().filter(|one| one.call == call);
+        of_call.map(|one| one.times.clone().map(median)).collect()
+    }
+
     /// The medians of what was measured of a call.
     pub fn times(&self, call: Call) -> Times {
-        let of_call = self.measured.iter().filter(|one| one.call == call);
-        let medians: Vec<[f64; 2]> = of_call.map(|one| one.times.clone().map(median)).collect();
+        let medians = self.medians(call);
         Times {
             verified: median(medians.iter().map(|t| t[0]).collect()),
             independent: median(medians.iter().map(|t| t[1]).collect()),
             ratio: median(medians.iter().map(|t| t[0] / t[1]).collect()),
         }
+    }
+
+    /// The verified side's time of one call to that of another, the median of the banks' ratios.
+    pub fn verified_ratio(&self, call: Call, other: Call) -> f64 {
+        let (call, other) = (self.medians(call), self.medians(other));
+        let ratios = call.iter().zip(&other).map(|(t, o)| t[0] / o[0]);
+        median(ratios.collect())
     }
 }
 

@@ -1,7 +1,8 @@
 //! Zaatarloft's calls for Rust: safe wrappers of the proved library.
 //!
 //! A matrix record goes in as bytes, a netlist of additions, subtractions and shifts comes out as bytes; `generate` makes
-//! matrix records from seeds, and `read_matrix_market` from Matrix Market files; `write_verilog` makes a netlist's Verilog module.
+//! matrix records from seeds, and `read_matrix_market` from Matrix Market files; `write_verilog` makes a netlist's Verilog module;
+//! `clock` takes one vector every clock through a netlist whose values wait in registers, as many as `registers` says.
 //! The calls are proved; these wrappers are not. Each returns what document 01 says, or the refusal with its number and place.
 //!
 //! ```
@@ -37,7 +38,7 @@ pub const VERILOG_BYTES: usize = 37987;
 pub struct Refusal {
     /// From 1 to 21.
     pub number: u8,
-    /// A place in the bytes lent; a row for 14, and a sample's index for 21.
+    /// A place in the bytes lent; a row for 14, and a sample's index for 21, in `clock` that in the whole list.
     pub place: usize,
 }
 
@@ -353,4 +354,61 @@ pub fn write_verilog(netlist: &[u8], buffer: &mut [u8]) -> Result<usize, Refusal
         )
     };
     accepted(number, place, written)
+}
+
+/// How many registers a netlist's clocked form has: one for each operation, and for each symbol as many as its longest delay.
+/// `clock` needs a store of so many numbers. Refusals 7 to 12, as `read`.
+pub fn registers(netlist: &[u8]) -> Result<usize, Refusal> {
+    let mut place = 0;
+    let mut registers = 0;
+    // SAFETY: the slice is valid for its length, and both references are to distinct numbers.
+    let number = unsafe {
+        raw::zaatarloft_raw_registers(netlist.as_ptr(), netlist.len(), &mut place, &mut registers)
+    };
+    accepted(number, place, registers)
+}
+
+/// Clocks a whole list of vectors through a netlist, n samples a clock, each of which fits the netlist's sample width, and fills m
+/// outputs a clock. The first outputs are zero, for as many clocks as the netlist is deep; from there on a clock has `run`'s outputs
+/// for the vector of so many clocks before.
+///
+/// The registers are the first numbers of the store. They are cleared, also for an empty list, and left as they are after the last
+/// clock: the operations' by symbol, then each symbol's delays by symbol, newest first; the numbers behind them are as they were.
+/// Refusals 7 to 12, as `read`, then 6, 15, 16 and 21, which leave store and outputs as they were.
+///
+/// ```
+/// let matrix = [0x0A, 0, 1, 0, 1, 2, 3, 0, 0xFD, 0xFF]; // row 3, −3
+/// let mut buffer = [0; zaatarloft::NETLIST_BYTES];
+/// let compiled = zaatarloft::compile(&matrix, 16, &mut buffer)?;
+/// let netlist = &buffer[..compiled.written];
+/// assert_eq!((compiled.depth, zaatarloft::registers(netlist)?), (2, 2));
+/// let vectors = [5, 1, 2, 2, 1, 0, 0, 9];
+/// let (mut store, mut outputs) = ([7; 3], [7; 4]);
+/// zaatarloft::clock(netlist, &vectors, &mut store, &mut outputs)?;
+/// assert_eq!(outputs, [0, 0, 12, 0]); // 3 times 5 − 1, and 3 times 2 − 2, two clocks later each
+/// assert_eq!(store, [-9, 3, 7]); // 0 − 9, and 3 times 1 − 0
+/// # Ok::<(), zaatarloft::Refusal>(())
+/// ```
+pub fn clock(
+    netlist: &[u8],
+    samples: &[i32],
+    store: &mut [i64],
+    outputs: &mut [i64],
+) -> Result<(), Refusal> {
+    let mut place = 0;
+    // SAFETY: all four slices are valid for their lengths, store and outputs for writes, and none of them overlaps another.
+    let number = unsafe {
+        raw::zaatarloft_raw_clock(
+            netlist.as_ptr(),
+            netlist.len(),
+            samples.as_ptr(),
+            samples.len(),
+            store.as_mut_ptr(),
+            store.len(),
+            outputs.as_mut_ptr(),
+            outputs.len(),
+            &mut place,
+        )
+    };
+    accepted(number, place, ())
 }

@@ -99,3 +99,24 @@ extern "C" {
         written: *mut usize,
     ) -> u8;
 }
+extern "C" {
+    pub fn zaatarloft_raw_registers(
+        netlist: *const u8,
+        netlist_length: usize,
+        place: *mut usize,
+        registers: *mut usize,
+    ) -> u8;
+}
+extern "C" {
+    pub fn zaatarloft_raw_clock(
+        netlist: *const u8,
+        netlist_length: usize,
+        samples: *const i32,
+        samples_length: usize,
+        store: *mut i64,
+        store_length: usize,
+        outputs: *mut i64,
+        outputs_length: usize,
+        place: *mut usize,
+    ) -> u8;
+}

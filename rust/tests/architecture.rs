@@ -9,7 +9,7 @@ const ARCHITECTURE: &str = include_str!("../../docs/ARCHITECTURE.md");
 const CRATES: &str = include_str!("../../crates.txt");
 
 /// The definitions that contracts of public functions, and the theorems of docs/CLAIM.md, cite, by the list in which they stand first.
-const PROMISES: [(&str, &[&str]); 5] = [
+const PROMISES: [(&str, &[&str]); 6] = [
     (
         "calls",
         &[
@@ -21,6 +21,7 @@ const PROMISES: [(&str, &[&str]); 5] = [
             "generator/Generator",
             "market_rules/Market",
             "verilog_rules/Answer",
+            "clock_rules/Answer",
         ],
     ),
     (
@@ -44,8 +45,10 @@ const PROMISES: [(&str, &[&str]); 5] = [
             "generator/Tests",
             "market_rules/Tests",
             "verilog_rules/Tests",
+            "clock_rules/Tests",
         ],
     ),
+    ("clocked", &["clock_rules/Claim", "clock_rules/Pipelined"]),
     ("kept", &["kept_rules/Kept"]),
     (
         "programs",
@@ -53,6 +56,7 @@ const PROMISES: [(&str, &[&str]); 5] = [
             "bank_text/BankText",
             "compile_output/CompileOutput",
             "run_text/RunText",
+            "clock_text/ClockText",
             "check_text/CheckText",
             "generate_output/GenerateOutput",
             "market_output/MarketOutput",

@@ -18,7 +18,7 @@ fn main() {
     let number = |index: usize| words[index].parse::<usize>().expect("a number");
     let (banks, size, bits) = (number(2), number(3), number(4) as u32);
     let mut inputs: Vec<Input> = seeds(banks)
-        .map(|seed| Input::of_seed(seed, size, size, bits))
+        .map(|seed| Input::of_seed(seed, size, size, bits, call.vectors()))
         .collect();
     measured(&mut inputs, call, side);
 }

@@ -99,7 +99,7 @@ fn main() {
         for side in SIDES {
             let (mut most_stack, mut most_heap) = (0, 0);
             for seed in seeds(20) {
-                let input = Input::of_seed(seed, 8, 8, 16);
+                let input = Input::of_seed(seed, 8, 8, 16, call.vectors());
                 let mut job = Job { input, call: None };
                 // The first call finds its functions; only the second one is measured.
                 most_heap = most_heap.max(heap(&mut job.input, call, side));

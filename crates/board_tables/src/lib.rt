@@ -14,7 +14,7 @@ ghost use Rattle.board_rules.specs.Machine.{shifted, joined, withSign, entryAt,
 ghost use Rattle.board_rules.specs.Table.{filled, formsLength, Small, SmallForms, formAppended, formsStarted, valueAppended};
 
 // A·2^sA + B·2^sB, or A·2^sA − B·2^sB: of entries, and of their coefficients.
-fn combined(sign: u8, a: i64, sa: u8, b: i64, sb: u8) -> i64
+pub fn combined(sign: u8, a: i64, sa: u8, b: i64, sb: u8) -> i64
     requires { ⌜ Small a sa × Small b sb ⌝ }
     ensures { λ r. ⌜ r ≡ joined sign (shifted a sa) (shifted b sb) ⌝ }
 {

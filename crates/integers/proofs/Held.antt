@@ -15,7 +15,7 @@ use lib.Pow.{pow-pos}
 use mir.Syntax.{Width}
 use mir.Val.{SFits, Fits, toZ, ofZ, hbits, bits}
 use mir.ValLaws.{toZ-ofZ, half-full, pow-bits}
-use Rattle.integers.proofs.Size.{fits-abs, abs-neg}
+use Rattle.integers.proofs.Size.{fits-abs, fits-wider, abs-neg}
 
 pub record Held (w : Width) (n : ℕ) (z : ℤ) : Type 0 where
   pub bits : n ≡ ofZ w z
@@ -148,6 +148,14 @@ held-shl {w} {a} {x} s h f = record {
 
 pub held-shr : {w : Width} {a : ℕ} {x : ℤ} (m : ℕ) → Held w a x → Held w (ofZ w (shrZ (toZ w a) m)) (shrZ x m)
 held-shr {w} {a} {x} m h = rw (is h) (held (record { sfits = omega (arith, h .fits .sfits, mag-shr x m) }))
+
+-- a number that fits a width, taken over into a wider one
+module _ (w v : Width) (l : hbits w ≤ hbits v) {z : ℤ} (f : SFits w z) where
+  pub need-widen : SFits v (toZ w (ofZ w z))
+  need-widen = need-cast v (held f) (fits-wider w v z l f)
+
+  pub widened : toZ v (ofZ v (toZ w (ofZ w z))) ≡ z
+  widened = is (held-cast v (held f) (fits-wider w v z l f))
 
 -- what `search` is handed at a signed need
 pub ruleset helds = (need-+, need--, need-neg, need-cast, held, held-nat, held-+, held--, held-neg, held-cast, held-shl, held-shr)

@@ -68,6 +68,7 @@ pub record NetlistHeld (bytes : List ℕ) (forms : List ℤ) : Type 0 where
   pub forms-held : FormsHeld bytes (headAt bytes .width) (headAt bytes .n) (headAt bytes .operations) forms
 
 -- all records behind the head
-pub record RecordsRead (bytes : List ℕ) (r : Refusal) (forms : List ℤ) : Type 0 where
+pub record RecordsRead (bytes : List ℕ) (r : Refusal) (forms : List ℤ) (table : List ℕ) : Type 0 where
   pub answer : r ≡ refusalOf (readNetlist bytes)
   pub held : r .refusal ≡ 0 → NetlistHeld bytes forms
+  pub depths-held : r .refusal ≡ 0 → DepthsHeld bytes (headAt bytes .n) (headAt bytes .operations) table

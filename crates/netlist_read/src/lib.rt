@@ -29,7 +29,7 @@ ghost use Prim.Native.Nat.{_≤_, _<_};
 ghost use lib.ListN.{length, take};
 ghost use Rattle.limits.specs.Limits.{maxRows, maxColumns, maxOperations, maxSymbols};
 ghost use Rattle.limits.specs.Size.{SampleWidth};
-ghost use Rattle.layout_rules.specs.Places.{headLengthIn, firstOperations};
+ghost use Rattle.layout_rules.specs.Places.{headLengthIn, headAt, firstOperations};
 ghost use Rattle.board_rules.specs.Machine.{largest};
 ghost use Rattle.board_rules.specs.Table.{filled, formsLength};
 ghost use Rattle.netlist_rules.specs.Read.{outputRefusal, totalsRefusal, readAnswer, sampleWidthAnswer};
@@ -214,7 +214,7 @@ fn records(
 ) -> Refusal
     requires { ⌜ HeadRead (now bytes) head × (start ≡ headLengthIn (now bytes)) ⌝ }
     requires { ⌜ (length (now forms) ≡ formsLength) × (now depths ≡ filled maxSymbols 0) ⌝ }
-    ensures { λ r. ⌜ RecordsRead (now (bytes .entry)) r (now (forms .exit)) ⌝ }
+    ensures { λ r. ⌜ RecordsRead (now (bytes .entry)) r (now (forms .exit)) (now (depths .exit)) ⌝ }
 {
     let n = head.n as usize;
     board_tables::start_forms(forms, n);
@@ -243,14 +243,14 @@ fn records(
     }
 }
 
-// Read, and where it accepts, the coefficients of every entry in the first table.
+// Read, and where it accepts, the coefficients of every entry in the first table, and the depths in the second.
 pub fn netlist(
     bytes: &[u8],
     forms: &mut [i64; FORMS_LENGTH],
     depths: &mut [u16; MAX_SYMBOLS],
 ) -> ReadAnswer
     requires { ⌜ (length (now forms) ≡ formsLength) × (now depths ≡ filled maxSymbols 0) ⌝ }
-    ensures { λ r. ⌜ (r ≡ readAnswer (now (bytes .entry))) × (r .refusal ≡ 0 → NetlistHeld (now (bytes .entry)) (now (forms .exit))) ⌝ }
+    ensures { λ r. ⌜ (r ≡ readAnswer (now (bytes .entry))) × (r .refusal ≡ 0 → NetlistHeld (now (bytes .entry)) (now (forms .exit)) × DepthsHeld (now (bytes .entry)) (headAt (now (bytes .entry)) .n) (headAt (now (bytes .entry)) .operations) (now (depths .exit))) ⌝ }
 {
     let refusal = head_refusal(bytes);
     if refusal != 0 {

@@ -89,7 +89,7 @@ module _ (s : ℕ) (samples : List ℤ) where
           let outside : Within s (getD samples j (pos 0)) → ⊥ = (λ w. true≢false (sym (fits-says s (getD samples j (pos 0)) .1 w) ∙ f)) in
           inr (21, j, omega arith, stop, rw (← further) (fails-among 21 j tests (suc j) k (fails-after 21 j (firstTests tests j) (tests j) a (inl (outside, refl, refl)))))
 
-  fit-decided : (n : ℕ) → length samples ≡ n → Decided (firstTests tests n) (fitAnswer s 0 samples) (ran 0 0) ran
+  pub fit-decided : (n : ℕ) → length samples ≡ n → Decided (firstTests tests n) (fitAnswer s 0 samples) (ran 0 0) ran
   unfolding firstTests
   fit-decided n e = let same : 0 + n ≡ n = omega arith in rw same at (from-sample-decided n 0 (same ∙ sym e) tt)
 

@@ -45,13 +45,14 @@ fn sample_fits(x: i64, s: u8) -> bool
     board_width::positive_part(x) < half
 }
 
-// 21 at the lowest index of a sample, of those in the table, that does not fit s bits; else 0.
-fn fit_answer(values: &[i64; MAX_SYMBOLS], n: usize, s: u8) -> RunAnswer
-    requires { ⌜ SampleWidth s × ((n ≤ maxColumns) × (length (now values) ≡ maxSymbols)) ⌝ }
-    ensures { λ r. ⌜ r ≡ fitAnswer s 0 (take n (now (values .entry))) ⌝ }
+// 21 at the lowest index of a sample that does not fit s bits; else 0.
+pub fn fit_answer(samples: &[i32], s: u8) -> RunAnswer
+    requires { ⌜ SampleWidth s ⌝ }
+    ensures { λ r. ⌜ r ≡ fitAnswer s 0 (now (samples .entry)) ⌝ }
 {
-    for i in 0..n {
-        let x = values[i];
+    let count = samples.len();
+    for i in 0..count {
+        let x = samples[i] as i64;
         if !sample_fits(x, s) {
             return RunAnswer {
                 refusal: 21,
@@ -135,13 +136,13 @@ pub fn run(netlist: &[u8], samples: &[i32], outputs: &mut [i64]) -> RunAnswer
             place: 0,
         };
     }
-    let mut values = board_tables::blank_values();
-    start_values(samples, &mut values);
     let head = head_at(netlist);
-    let fit = fit_answer(&values, n, head.width);
+    let fit = fit_answer(samples, head.width);
     if fit.refusal != 0 {
         return fit;
     }
+    let mut values = board_tables::blank_values();
+    start_values(samples, &mut values);
     let start = due_length(netlist);
     let operations = read.operations as usize;
     run_operations(netlist, start, n, operations, &mut values);

@@ -2,14 +2,14 @@
 -- difference which samples it is lent where there are more.
 -- Assumes nothing.
 use Prim.Native.Nat.{ℕ, suc, _*_, _/_, _%_, _≤_, _<_}
-use mathlib.Core.Path.{_≡_, refl, sym, ap₂, _∙_}
+use mathlib.Core.Path.{_≡_, refl, sym, ap, ap₂, _∙_}
 use mathlib.Core.Bool.{Bool, true, false}
 use mathlib.Core.List.{List, [], _∷_, _++_}
 use native.Mathlib.Omega.{arith}
 use lib.Dec.{eqb}
 use lib.IntN.{ℤ}
-use lib.ListN.{length, set, take}
-use lib.Seq.{take-suc-set}
+use lib.ListN.{length, set, take, drop, length-append}
+use lib.Seq.{length-take-le, take-suc-set, take-at}
 use borrow.Author.Tests.{eq-eqb, ne-eqb, eqb-true, eqb-false}
 use Rattle.limits.specs.Limits.{maxColumns}
 use Rattle.layout_rules.specs.Records.{Netlist}
@@ -49,6 +49,23 @@ module _ (bytes : List ℕ) where
       → take (suc i) (set samples i z) ≡ firstSamples bytes (suc i)
   unfolding firstRecords
   next-sample samples i z h e t = take-suc-set samples i z h ∙ ap₂ (λ (l : List ℤ) (y : ℤ). l ++ (y ∷ [])) t e
+
+  -- a table whose first so many places were lent and filled
+  module _ (table part : List ℤ) (count : ℕ) (room : count ≤ length table) (is : part ≡ firstSamples bytes (length (take count table))) where
+    front : part ≡ firstSamples bytes count
+    front = is ∙ ap (firstSamples bytes) (length-take-le count table room)
+
+    count-front : length part ≡ count
+    count-front = ap length front ∙ length-first (sampleAt bytes) count
+
+    pub samples-lent : take count (part ++ drop count table) ≡ firstSamples bytes count
+    samples-lent = take-at part (drop count table) count count-front ∙ front
+
+    pub room-lent : count ≤ length (part ++ drop count table)
+    room-lent = omega (arith, length-append part (drop count table), count-front)
+
+    pub count-lent : count ≡ length (take count (part ++ drop count table))
+    count-lent = sym (ap length samples-lent ∙ length-first (sampleAt bytes) count)
 
 -- run answers and leaves the same for both
 abbrev pub Alike : List ℕ → List ℤ → List ℤ → List ℤ → Type 0

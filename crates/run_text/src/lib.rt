@@ -1,6 +1,6 @@
 // Document 01, "Programs": the text of run-bank for a netlist and the bytes of samples, one output a line, in decimal. Rests on `limits`,
 // `netlist_run` and `text`, and on `board_width` for a number's positive and negative part.
-mod samples; // samples.rt: run, with the samples given as bytes
+pub mod samples; // samples.rt: run, with the samples given as bytes
 
 use limits::MAX_ROWS;
 ghost use mathlib.Core.Path.{_≡_};
@@ -18,7 +18,7 @@ const LONGEST_LINE: usize = 21;
 pub const ROOM: usize = LONGEST_LINE * MAX_ROWS;
 
 // A whole number in decimal, with a minus sign where it is negative.
-fn write_signed(value: i64, text: &mut [u8]) -> usize
+pub fn write_signed(value: i64, text: &mut [u8]) -> usize
     requires { ⌜ longestLine - 1 ≤ length (now text) ⌝ }
     ensures { λ r. ⌜ Wrote (now (text .entry)) (now (text .exit)) r (signedNumber value) ⌝ }
     ensures { λ r. ⌜ r ≤ longestLine - 1 ⌝ }

@@ -6,8 +6,7 @@ use limits::MAX_COLUMNS;
 use netlist_rules::RunAnswer;
 ghost use mathlib.Core.Path.{_≡_};
 ghost use Prim.Native.Nat.{_*_, _≤_};
-ghost use lib.ListN.{length, take};
-ghost use Rattle.limits.specs.Limits.{maxColumns};
+ghost use lib.ListN.{length};
 ghost use Rattle.netlist_rules.specs.Run.{runAnswer, runOutputs};
 ghost use Rattle.run_text.specs.Samples.{sampleCount, samplesOf, firstSamples};
 
@@ -24,16 +23,15 @@ fn sample_count(bytes: &[u8]) -> usize
     bytes.len() / 4
 }
 
-// So many samples.
-fn decoded(bytes: &[u8], count: usize) -> [i32; MAX_COLUMNS]
-    requires { ⌜ (count ≤ maxColumns) × (4 * count ≤ length (now bytes)) ⌝ }
-    ensures { λ r. ⌜ (length r ≡ maxColumns) × (take count r ≡ firstSamples (now (bytes .entry)) count) ⌝ }
+// Fills the lent samples with the first ones that the bytes hold.
+pub fn fill_samples(bytes: &[u8], samples: &mut [i32])
+    requires { ⌜ 4 * length (now samples) ≤ length (now bytes) ⌝ }
+    ensures { λ r. ⌜ now (samples .exit) ≡ firstSamples (now (bytes .entry)) (length (now (samples .entry))) ⌝ }
 {
-    let mut samples: [i32; MAX_COLUMNS] = [0; MAX_COLUMNS];
+    let count = samples.len();
     for i in 0..count {
         samples[i] = signed_double_word(double_word_at(bytes, 4 * i));
     }
-    samples
 }
 
 // Run on the samples that the bytes hold. Too many are refused whatever they are, so zeros stand for them.
@@ -46,6 +44,7 @@ pub(crate) fn run_on_bytes(netlist: &[u8], samples: &[u8], outputs: &mut [i64]) 
         let zeros: [i32; TOO_MANY] = [0; TOO_MANY];
         return netlist_run::run(netlist, &zeros, outputs);
     }
-    let vector = decoded(samples, count);
+    let mut vector: [i32; MAX_COLUMNS] = [0; MAX_COLUMNS];
+    fill_samples(samples, &mut vector[..count]);
     netlist_run::run(netlist, &vector[..count], outputs)
 }

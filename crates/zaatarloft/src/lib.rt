@@ -1,5 +1,5 @@
-// Document 01's nine calls for hosts in C and Rust, over numbers and slices of numbers alone. Rests on `compile`, `netlist_read`,
-// `netlist_check`, `netlist_run`, `layout_step`, `generator`, `market` and `verilog`.
+// Document 01's eleven calls for hosts in C and Rust, over numbers and slices of numbers alone. Rests on `compile`, `netlist_read`,
+// `netlist_check`, `netlist_run`, `layout_step`, `generator`, `market`, `verilog`, `clock_delays` and `clock`.
 // Each function returns the refusal's number, 0 where it accepts, and writes the other numbers of the answer through the references.
 // The names say raw: include/zaatarloft.h and rust/src/lib.rs have calls over them that give an answer as one struct.
 ghost use mathlib.Core.Path.{_≡_};
@@ -12,6 +12,7 @@ ghost use Rattle.layout_rules.specs.Step.{stepNumbers};
 ghost use Rattle.generator.specs.Generator.{generateAnswer, generateBuffer};
 ghost use Rattle.market_rules.specs.Market.{marketAnswer, marketBuffer};
 ghost use Rattle.verilog_rules.specs.Answer.{verilogAnswer, verilogBuffer};
+ghost use Rattle.clock_rules.specs.Answer.{registersAnswer, clockAnswer, clockOutputs, clockStore};
 
 // Compile: from a matrix record, or no bytes, to the netlist for samples of a width, at the start of the lent buffer.
 #[no_mangle]
@@ -175,4 +176,37 @@ pub extern "C" fn zaatarloft_raw_write_verilog(
     *place = wrote.place;
     *written = wrote.written;
     wrote.refusal
+}
+
+// Registers: how many the clocked form of a netlist has.
+#[no_mangle]
+pub extern "C" fn zaatarloft_raw_registers(
+    netlist: &[u8],
+    place: &mut usize,
+    registers: &mut usize,
+) -> u8
+    ensures { λ r. ⌜ record { refusal = r; place = now (place .exit); registers = now (registers .exit) } ≡ registersAnswer (now (netlist .entry)) ⌝ }
+{
+    let total = clock_delays::registers(netlist);
+    *place = total.place;
+    *registers = total.registers;
+    total.refusal
+}
+
+// Clock: a list of vectors through the clocked form of a netlist, in the lent store, into the lent outputs.
+#[no_mangle]
+pub extern "C" fn zaatarloft_raw_clock(
+    netlist: &[u8],
+    samples: &[i32],
+    store: &mut [i64],
+    outputs: &mut [i64],
+    place: &mut usize,
+) -> u8
+    ensures { λ r. ⌜ record { refusal = r; place = now (place .exit) } ≡ clockAnswer (now (netlist .entry)) (now (samples .entry)) (length (now (store .entry))) (length (now (outputs .entry))) ⌝ }
+    ensures { λ _. ⌜ now (store .exit) ≡ clockStore (now (netlist .entry)) (now (samples .entry)) (now (store .entry)) (length (now (outputs .entry))) ⌝ }
+    ensures { λ _. ⌜ now (outputs .exit) ≡ clockOutputs (now (netlist .entry)) (now (samples .entry)) (now (store .entry)) (now (outputs .entry)) ⌝ }
+{
+    let clocked = clock::clock(netlist, samples, store, outputs);
+    *place = clocked.place;
+    clocked.refusal
 }

@@ -147,6 +147,68 @@ pub fn any_netlist(
     builder.finish(m)
 }
 
+/// A chain of operations in which each takes what came before it three times in four, so that it is deep, and any other entry,
+/// which may have to wait long. Outputs are any entries, inputs and the chain's end among them. No width exceeds 44.
+pub fn deep_netlist(
+    random: &mut Random,
+    sample_width: u8,
+    m: usize,
+    n: usize,
+    operations: usize,
+) -> Vec<u8> {
+    let mut builder = Builder::new(n, sample_width);
+    for _ in 0..operations {
+        let latest = builder.entries.len() - 1;
+        let any = operand(random, &builder, 2, 40);
+        let before = if random.once_in(4) {
+            operand(random, &builder, 2, 40)
+        } else {
+            (latest, 0)
+        };
+        // a chain that is too wide goes on from zero, as deep as it was
+        let wide = [before, any]
+            .iter()
+            .any(|o| builder.entries[o.0].width > 42);
+        let (subtract, second) = if wide {
+            (true, before)
+        } else {
+            (random.once_in(2), any)
+        };
+        let (a, b) = random.choose(&[(before, second), (second, before)]);
+        builder.operation(subtract, a, b);
+    }
+    for _ in 0..m {
+        let latest = builder.entries.len() - 1;
+        match random.between(0, 5) {
+            0 => builder.zero(),
+            1 => builder.output(random.once_in(2), (latest, 0)),
+            2 => builder.output(random.once_in(2), (random.between(0, n - 1), 1)),
+            _ => {
+                let entry = operand(random, &builder, 2, 40);
+                builder.output(random.once_in(2), entry);
+            }
+        }
+    }
+    builder.finish(m)
+}
+
+/// A chain over one input in which each operation takes the one before it and the one so far `back`, or the input where there is
+/// none, with the sign that keeps it narrow and not zero: what is taken from so far back waits for so many clocks. Outputs are the
+/// chain's end and the input.
+pub fn waiting_netlist(sample_width: u8, operations: usize, back: usize) -> Vec<u8> {
+    let mut builder = Builder::new(1, sample_width);
+    for before in 0..operations {
+        let earlier = before.saturating_sub(back);
+        let [a, b] = [before, earlier].map(|entry| builder.entries[entry].form[0]);
+        let (sum, difference) = ((a + b).abs(), (a - b).abs());
+        let subtract = sum == 0 || difference != 0 && difference < sum;
+        builder.operation(subtract, (before, 0), (earlier, 0));
+    }
+    builder.output(false, (operations, 0));
+    builder.output(true, (0, 0));
+    builder.finish(2)
+}
+
 /// An entry, rather a narrow one, with a shift that keeps it within a width where it can.
 fn operand(random: &mut Random, builder: &Builder, most_shift: usize, most_width: u8) -> Operand {
     let most = builder.entries.len() - 1;

@@ -7,6 +7,7 @@
 
 mod board;
 mod check;
+mod clock;
 mod compile;
 mod digits;
 mod elimination;
@@ -24,6 +25,7 @@ mod verilog;
 mod width;
 
 pub use check::check;
+pub use clock::{clock, registers};
 pub use compile::{compile, compile_by, Compiled, Rules};
 pub use elimination::{Divisor, Order};
 pub use generator::generate;

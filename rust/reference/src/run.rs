@@ -10,9 +10,7 @@ pub fn run(netlist: &[u8], samples: &[i32], outputs: &mut [i64]) -> Result<(), R
     let board = &contents.board;
     require(samples.len() == board.n, 15, 0)?;
     require(outputs.len() == board.outputs.len(), 16, 0)?;
-    for (index, &sample) in samples.iter().enumerate() {
-        require(contents.samples.contain(sample), 21, index)?;
-    }
+    contents.samples.require_all(samples)?;
 
     let values = board.values(samples);
     for (value, output) in outputs.iter_mut().zip(&board.outputs) {

@@ -1,5 +1,7 @@
 //! Samples: two's complement numbers of 8 to 24 bits.
 
+use crate::refusal::Refusal;
+
 /// The width that no head states: a head of kind 2 is of that width, and one of kind 6 states another.
 const UNSTATED: u8 = 16;
 
@@ -41,7 +43,12 @@ impl Samples {
         (1 << (self.width - 1)) - 1
     }
 
-    pub fn contain(self, sample: i32) -> bool {
-        (self.lowest()..=self.highest()).contains(&i64::from(sample))
+    /// Refuses with 21, at the lowest index, a sample that is none of these.
+    pub fn require_all(self, samples: &[i32]) -> Result<(), Refusal> {
+        let fit = self.lowest()..=self.highest();
+        match samples.iter().position(|&x| !fit.contains(&x.into())) {
+            None => Ok(()),
+            Some(place) => Err(Refusal { number: 21, place }),
+        }
     }
 }

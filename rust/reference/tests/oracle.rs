@@ -8,13 +8,13 @@ use std::env;
 use std::io::{BufRead, BufReader, Write};
 use std::process::{Child, ChildStdin, ChildStdout, Command, Stdio};
 
-use cases::{any_bank, any_matrix, any_netlist, damage, damage_head, damage_matrix};
-use cases::{damaged_market_file, each, market_file, other_heads, plain_netlist};
+use cases::{any_bank, any_list, any_matrix, any_netlist, damage, damage_head, damage_matrix};
+use cases::{damaged_market_file, deep_netlist, each, market_file, other_heads, plain_netlist};
 use cases::{Matrix, Met, Random};
 use reference::{compile, Refusal};
 
 /// How many of the later requests are in force: the program's level.
-const REQUESTS: &str = "9";
+const REQUESTS: &str = "10";
 
 /// The bytes that suffice for every netlist.
 const ROOM: usize = 6137;
@@ -23,7 +23,7 @@ const ROOM: usize = 6137;
 const TEXT_ROOM: usize = 37_987;
 
 /// A line of a call's name and its arguments goes in, and one of the numbers of its answer or of the refusal comes out. Bytes are
-/// hexadecimal, behind a letter, since there may be none.
+/// hexadecimal, behind a letter, since there may be none, and so are lists of numbers behind another, with commas between them.
 const CALLS: &str = "
 import sys
 from importlib import util
@@ -55,12 +55,26 @@ def market(text, room):
 def verilog(netlist, room):
     return 'x' + bank.verilog(level, netlist, room).hex(),
 
-calls = {call.__name__: call for call in (compile, read, check, run, generate, market, verilog)}
+def registers(netlist):
+    return bank.registers(level, netlist),
+
+def clock(netlist, samples, store, outputs):
+    filled, left = bank.clock(level, netlist, samples, outputs, store)
+    return *filled, 'store', *left
+
+def argument(word):
+    if word[0] == 'x':
+        return bytes.fromhex(word[1:])
+    if word[0] == 'n':
+        return [int(number) for number in word[1:].split(',') if number]
+    return int(word)
+
+calls = {call.__name__: call for call in
+         (compile, read, check, run, generate, market, verilog, registers, clock)}
 for line in sys.stdin:
     name, *words = line.split()
-    arguments = [bytes.fromhex(word[1:]) if word[0] == 'x' else int(word) for word in words]
     try:
-        print('accepted', *calls[name](*arguments), flush=True)
+        print('accepted', *calls[name](*map(argument, words)), flush=True)
     except bank.Refused as refused:
         print(refused.text(), flush=True)
 ";
@@ -68,6 +82,12 @@ for line in sys.stdin:
 fn bytes(bytes: &[u8]) -> String {
     let digits: String = bytes.iter().map(|byte| format!("{byte:02x}")).collect();
     format!("x{digits}")
+}
+
+/// A list of numbers, each behind a separator but for the first.
+fn separated<T: ToString>(numbers: &[T], separator: &str) -> String {
+    let words: Vec<String> = numbers.iter().map(T::to_string).collect();
+    words.join(separator)
 }
 
 /// The process of the second program, and what was met, call by call.
@@ -82,6 +102,8 @@ struct Bank {
     generate: Met,
     market: Met,
     verilog: Met,
+    registers: Met,
+    clock: Met,
 }
 
 impl Bank {
@@ -104,6 +126,8 @@ impl Bank {
             generate: Met::default(),
             market: Met::default(),
             verilog: Met::default(),
+            registers: Met::default(),
+            clock: Met::default(),
         }
     }
 
@@ -158,12 +182,10 @@ impl Bank {
 
     fn run(&mut self, netlist: &[u8], samples: &[i32], m: usize) {
         let mut outputs = vec![5; m];
-        let ours = reference::run(netlist, samples, &mut outputs).map(|()| {
-            let outputs: Vec<String> = outputs.iter().map(i64::to_string).collect();
-            outputs.join(" ")
-        });
-        let samples: Vec<String> = samples.iter().map(i32::to_string).collect();
-        let question = format!("run {} {m} {}", bytes(netlist), samples.join(" "));
+        let ours = reference::run(netlist, samples, &mut outputs);
+        let ours = ours.map(|()| separated(&outputs, " "));
+        let samples = separated(samples, " ");
+        let question = format!("run {} {m} {samples}", bytes(netlist));
         let number = self.ask(question, ours);
         self.run.count(number);
     }
@@ -193,6 +215,27 @@ impl Bank {
         let number = self.ask(format!("verilog {} {room}", bytes(netlist)), ours);
         self.verilog.count(number);
         written
+    }
+
+    fn registers(&mut self, netlist: &[u8]) {
+        let ours = reference::registers(netlist).map(|total| total.to_string());
+        let number = self.ask(format!("registers {}", bytes(netlist)), ours);
+        self.registers.count(number);
+    }
+
+    /// Compares clock on so many outputs and a store of these numbers: the outputs, and the whole store afterwards.
+    fn clock(&mut self, netlist: &[u8], samples: &[i32], store: &[i64], count: usize) {
+        let (mut outputs, mut left) = (vec![5; count], store.to_vec());
+        let ours = reference::clock(netlist, samples, &mut left, &mut outputs);
+        let ours = ours.map(|()| {
+            let (outputs, left) = (separated(&outputs, " "), separated(&left, " "));
+            format!("{outputs} store {left}").trim_start().to_owned()
+        });
+        let (samples, store) = (separated(samples, ","), separated(store, ","));
+        let netlist = bytes(netlist);
+        let question = format!("clock {netlist} n{samples} n{store} {count}");
+        let number = self.ask(question, ours);
+        self.clock.count(number);
     }
 
     fn end(self) {
@@ -426,5 +469,96 @@ fn oracle_writes_the_same_modules() {
     });
     let numbers = [0, 6, 7, 8, 9, 10, 11, 12];
     bank.verilog.assert_exactly("write_verilog", &numbers, 1);
+    bank.end();
+}
+
+/// A netlist's registers; then a list on a store of just so many, of more and of one less, and lists that are refused or empty.
+fn compare_clocked(bank: &mut Bank, random: &mut Random, netlist: &[u8], width: u8) {
+    bank.registers(netlist);
+    let read = reference::read(netlist).unwrap_or_default();
+    let (m, n) = (usize::from(read.m), usize::from(read.n));
+    let total = reference::registers(netlist).unwrap_or(2);
+    let room = total + random.between(0, 5);
+    let store: Vec<i64> = (0..room).map(|_| random.number() as i64).collect();
+
+    let clocks = random.between(0, usize::from(read.depth) + 6);
+    let samples = any_list(random, width, n, clocks);
+    bank.clock(netlist, &samples, &store, m * clocks);
+    bank.clock(netlist, &samples, &store[..total], m * clocks);
+    let few = random.between(0, total.saturating_sub(1));
+    bank.clock(netlist, &samples, &store[..few], m * clocks);
+    bank.clock(netlist, &[], &store, 0);
+
+    let clocks = random.between(1, 3);
+    let samples = random.near_samples(width, n * clocks);
+    bank.clock(netlist, &samples, &store, m * clocks);
+    let count = random.choose(&[0, 1, m, m * clocks + 1, m * clocks + m]);
+    bank.clock(netlist, &samples, &store, count);
+    let most = n * clocks + 1;
+    let other = random.choose(&[1, most - 1, most, most + n]);
+    let samples = random.near_samples(width, other);
+    bank.clock(netlist, &samples, &store, m * clocks);
+}
+
+/// Netlists of compile, others that are right, deep ones and damaged ones. Every depth from 0 to 20 is met, and larger ones.
+#[test]
+#[ignore = "needs BANK, the path of a second program"]
+fn oracle_clocks_the_same() {
+    let mut bank = Bank::start();
+    let mut depths = Met::default();
+    each(0, count(), |random| {
+        let (matrix, width) = (any_bank(random, 8, 8), random.sample_width());
+        let (m, n) = (matrix.m(), matrix.n());
+        let most = random.choose(&[3, 12, 30, 60]);
+        let operations = random.between(0, most);
+        let any = any_netlist(random, width, m, n, operations);
+        let deep = match n {
+            0 => any.clone(),
+            _ => deep_netlist(random, width, m, n, operations),
+        };
+        let small = any_bank(random, 3, 3);
+        let mut compiled = vec![0; ROOM];
+        let written = compile(&small.record(), width, &mut compiled);
+        compiled.truncate(written.unwrap().written);
+        let plain = plain_netlist(random, width, &small).unwrap_or_else(|| any.clone());
+        let damaged = damage(random, &deep, &compiled);
+        let other_head = damage_head(random, &compiled);
+        for netlist in [&compiled, &any, &deep, &plain, &damaged, &other_head] {
+            compare_clocked(&mut bank, random, netlist, width);
+            if let Ok(read) = reference::read(netlist) {
+                depths.count(read.depth.min(21) as u8);
+            }
+        }
+    });
+    let read = [0, 7, 8, 9, 10, 11, 12];
+    bank.registers.assert_exactly("registers", &read, 1);
+    let numbers = [&read[..], &[6, 15, 16, 21]].concat();
+    bank.clock.assert_exactly("clock", &numbers, 1);
+    depths.assert_exactly("depths", &Vec::from_iter(0..=21), 1);
+    bank.end();
+}
+
+/// The largest: 8 by 8 banks and chains of hundreds of operations, for one seed in ten.
+#[test]
+#[ignore = "needs BANK, the path of a second program"]
+fn oracle_clocks_the_same_large_netlists() {
+    let mut bank = Bank::start();
+    each(0, count().div_euclid(10).max(1), |random| {
+        let width = random.sample_width();
+        let (m, n) = (random.between(1, 8), random.between(1, 8));
+        let operations = random.between(100, 504);
+        let deep = deep_netlist(random, width, m, n, operations);
+        bank.registers(&deep);
+        let read = reference::read(&deep).unwrap();
+        let total = reference::registers(&deep).unwrap();
+        let clocks = usize::from(read.depth) + 3;
+        let samples = any_list(random, width, n, clocks);
+        bank.clock(&deep, &samples, &vec![-1; total + 1], m * clocks);
+
+        let matrix = any_matrix(random, 8, 8);
+        let netlist = bank.compile(&matrix.record(), width, ROOM).unwrap();
+        compare_clocked(&mut bank, random, &netlist, width);
+    });
+    bank.clock.assert_exactly("clock", &[0, 6, 15, 16, 21], 1);
     bank.end();
 }

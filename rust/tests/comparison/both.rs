@@ -19,6 +19,8 @@ pub struct Both {
     generate: Met,
     market: Met,
     verilog: Met,
+    registers: Met,
+    clock: Met,
 }
 
 /// A refusal's number and place, of either side.
@@ -43,6 +45,11 @@ fn number<T>(answer: &Result<T, Refused>) -> u8 {
 /// Old bytes of a buffer, none of them 0, so that also a cleared one is seen.
 pub fn old_bytes(random: &mut Random, room: usize) -> Vec<u8> {
     random.bytes(room).iter().map(|byte| byte | 1).collect()
+}
+
+/// Old numbers of outputs or of a store, none of them 0.
+pub fn old_numbers(random: &mut Random, count: usize) -> Vec<i64> {
+    (0..count).map(|_| random.number() as i64 | 1).collect()
 }
 
 /// Lends a call a buffer with these old contents, and returns its answer and the contents afterwards.
@@ -201,6 +208,54 @@ impl Both {
         answer.ok().map(|_| buffer[..written].to_vec())
     }
 
+    pub fn registers(&mut self, netlist: &[u8]) -> Option<usize> {
+        let expected = independent(reference::registers(netlist));
+        let answer = verified(zaatarloft::registers(netlist));
+        assert_eq!(answer, expected, "registers of {netlist:?}");
+        self.registers.count(number(&answer));
+        answer.ok()
+    }
+
+    /// Clocks a list on a store and outputs with these old contents, and returns the outputs where it was accepted. A refusal leaves both
+    /// as they were, and what is behind the registers stays.
+    pub fn clock(
+        &mut self,
+        netlist: &[u8],
+        samples: &[i32],
+        store: &[i64],
+        outputs: &[i64],
+    ) -> Option<Vec<i64>> {
+        let ((answer, filled), left) = lend(store, -7, |store| {
+            lend(outputs, -9, |outputs| {
+                zaatarloft::clock(netlist, samples, store, outputs)
+            })
+        });
+        let ((expected, values), numbers) = lend(store, -7, |store| {
+            lend(outputs, -9, |outputs| {
+                reference::clock(netlist, samples, store, outputs)
+            })
+        });
+        let (answer, expected) = (verified(answer), independent(expected));
+        let room = store.len();
+        let case = || format!("clock of {netlist:?} on {samples:?} with {room} registers");
+        assert_eq!(answer, expected, "{}", case());
+        assert_eq!(filled, values, "outputs of {}", case());
+        assert_eq!(left, numbers, "store of {}", case());
+        self.clock.count(number(&answer));
+
+        match answer {
+            Ok(()) => {
+                let total = reference::registers(netlist).unwrap();
+                assert_eq!(left[total..], store[total..]);
+                Some(filled)
+            }
+            Err(_) => {
+                assert_eq!((&left[..], &filled[..]), (store, outputs));
+                None
+            }
+        }
+    }
+
     pub fn assert_compile(&self, numbers: &[u8], least: u64) {
         self.compile.assert_exactly("compile", numbers, least);
     }
@@ -237,5 +292,13 @@ impl Both {
 
     pub fn assert_verilog(&self, numbers: &[u8], least: u64) {
         self.verilog.assert_exactly("write_verilog", numbers, least);
+    }
+
+    pub fn assert_registers(&self, numbers: &[u8], least: u64) {
+        self.registers.assert_exactly("registers", numbers, least);
+    }
+
+    pub fn assert_clock(&self, numbers: &[u8], least: u64) {
+        self.clock.assert_exactly("clock", numbers, least);
     }
 }

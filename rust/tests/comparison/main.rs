@@ -5,6 +5,7 @@
 //! only of `many_seeds`, whose seeds are the generator's, and of tests that need none, as those of `no_rows`, all are run.
 
 mod both;
+mod clock;
 mod compile;
 mod generate;
 mod market;

@@ -40,6 +40,22 @@ fn modules_in_buffers_of_every_length() {
     both.assert_verilog(&[0, 6], 17 * 15);
 }
 
+/// No vector has any number of samples; no register is cleared, however many are lent.
+#[test]
+fn lists_of_every_length() {
+    let mut both = Both::default();
+    for (width, samples) in (8..=24).flat_map(|width| (0..=10).map(move |count| (width, count))) {
+        let netlist = netlist_of_width(width);
+        assert_eq!(both.registers(&netlist), Some(0));
+        for (outputs, room) in (0..=10).flat_map(|count| (0..=2).map(move |room| (count, room))) {
+            let (store, outputs) = (vec![3; room], vec![-1; outputs]);
+            let filled = both.clock(&netlist, &vec![1; samples], &store, &outputs);
+            assert_eq!(filled.is_some(), samples == 0 && outputs.is_empty());
+        }
+    }
+    both.assert_clock(&[0, 15, 16], 17 * 3);
+}
+
 /// One to five bytes, and six with every m and n.
 #[test]
 fn few_bytes() {
@@ -96,7 +112,7 @@ fn others() -> Vec<Vec<u8>> {
     all
 }
 
-/// Check against no bytes and against a row; run with right and wrong counts, 15 before 16.
+/// Check against no bytes and against a row; run and clock with right and wrong counts, 15 before 16.
 #[test]
 fn every_byte_changed() {
     let mut both = Both::default();
@@ -106,6 +122,10 @@ fn every_byte_changed() {
         both.sample_width(&netlist);
         both.write_verilog(&netlist, &[0xA5; 26]);
         both.write_verilog(&netlist, &[0xA5; 25]);
+        both.registers(&netlist);
+        for (samples, outputs) in [(0, 0), (0, 1), (1, 0), (1, 1), (8, 8)] {
+            both.clock(&netlist, &vec![1; samples], &[], &vec![-1; outputs]);
+        }
         both.check(&[], &netlist);
         both.check(&row, &netlist);
         for samples in 0..=10 {
@@ -117,6 +137,8 @@ fn every_byte_changed() {
     both.assert_read(&[0, 7, 8, 9, 11, 12], 16);
     both.assert_sample_width(&[0, 7, 8, 9, 11, 12], 16);
     both.assert_verilog(&[0, 6, 7, 8, 9, 11, 12], 16);
+    both.assert_registers(&[0, 7, 8, 9, 11, 12], 16);
+    both.assert_clock(&[0, 7, 8, 9, 11, 12, 15, 16], 16);
     both.assert_check(&[0, 7, 8, 9, 11, 12, 13], 16);
     both.assert_run(&[0, 7, 8, 9, 11, 12, 15, 16], 16);
 }
@@ -163,6 +185,12 @@ fn nothing_in_hand() {
         assert_eq!(written.map_err(number), Err(7));
         let written = zaatarloft::write_verilog(&buffer, &mut Vec::new());
         assert_eq!(written.map_err(number), Err(6));
+        assert_eq!(zaatarloft::registers(matrix).map_err(number), Err(7));
+        assert_eq!(zaatarloft::registers(&buffer), Ok(0));
+        let clocked = zaatarloft::clock(matrix, &[], &mut Vec::new(), &mut Vec::new());
+        assert_eq!(clocked.map_err(number), Err(7));
+        let clocked = zaatarloft::clock(&buffer, &[], &mut Vec::new(), &mut Vec::new());
+        assert_eq!(clocked, Ok(()));
         let stepped = zaatarloft::step(matrix, 0);
         assert_eq!(stepped.map(drop).map_err(number), Err(7));
     }

@@ -5,10 +5,12 @@ use cases::{any_bank, any_matrix, any_netlist, damage, damage_head, damage_matri
 use cases::{damaged_market_file, each, Met, Random};
 use reference::returned;
 use zaatarloft::raw::{
-    zaatarloft_raw_compile, zaatarloft_raw_generate, zaatarloft_raw_read,
-    zaatarloft_raw_read_matrix_market, zaatarloft_raw_run, zaatarloft_raw_sample_width,
-    zaatarloft_raw_step, zaatarloft_raw_write_verilog,
+    zaatarloft_raw_clock, zaatarloft_raw_compile, zaatarloft_raw_generate, zaatarloft_raw_read,
+    zaatarloft_raw_read_matrix_market, zaatarloft_raw_registers, zaatarloft_raw_run,
+    zaatarloft_raw_sample_width, zaatarloft_raw_step, zaatarloft_raw_write_verilog,
 };
+
+use crate::both::old_numbers;
 
 /// A netlist for samples of so many bits, with its m and n.
 fn small_netlist(random: &mut Random, width: u8) -> (Vec<u8>, usize, usize) {
@@ -255,4 +257,69 @@ fn numbers_of_write_verilog() {
         });
     });
     met.assert_exactly("write_verilog", &[0, 6, 7, 8, 9, 10, 11, 12], 100);
+}
+
+#[test]
+fn numbers_of_registers() {
+    let mut met = Met::default();
+    each(49_000_000, 20_000, |random| {
+        let width = random.sample_width();
+        let (right, _, _) = small_netlist(random, width);
+        let netlist = match random.between(0, 1) {
+            0 => damage(random, &right, &right),
+            _ => right,
+        };
+        let (mut place, mut registers) = (77, 77);
+        let bytes = netlist.as_ptr();
+        // SAFETY: the slice is valid for its length, and the numbers are distinct.
+        let number =
+            unsafe { zaatarloft_raw_registers(bytes, netlist.len(), &mut place, &mut registers) };
+        met.count(number);
+        let expected = reference::registers(&netlist);
+        assert_eq!((number, place), returned(&expected));
+        assert_eq!(registers, expected.unwrap_or(0));
+    });
+    met.assert_exactly("registers", &[0, 7, 8, 9, 10, 11, 12], 100);
+}
+
+/// Clock takes any numbers of samples, registers and outputs.
+#[test]
+fn numbers_of_clock() {
+    let mut met = Met::default();
+    each(50_000_000, 20_000, |random| {
+        let width = random.sample_width();
+        let (right, m, n) = small_netlist(random, width);
+        let netlist = match random.between(0, 2) {
+            0 => damage(random, &right, &right),
+            _ => right,
+        };
+        let clocks = random.between(0, 9);
+        let count = random.choose(&[n * clocks, n * clocks, n * clocks, n * clocks + 1, 1, 100]);
+        let samples = random.near_samples(width, count);
+        let count = random.choose(&[m * clocks, m * clocks, m * clocks, m * clocks + 1, 0, 100]);
+        let room = random.choose(&[100, 100, 100, 10, 0]);
+        let (old_store, old_outputs) = (old_numbers(random, room), old_numbers(random, count));
+        let (mut store, mut outputs) = (old_store.clone(), old_outputs.clone());
+        let mut place = 77;
+        // SAFETY: all slices are valid for their lengths and distinct.
+        let number = unsafe {
+            zaatarloft_raw_clock(
+                netlist.as_ptr(),
+                netlist.len(),
+                samples.as_ptr(),
+                samples.len(),
+                store.as_mut_ptr(),
+                store.len(),
+                outputs.as_mut_ptr(),
+                outputs.len(),
+                &mut place,
+            )
+        };
+        met.count(number);
+        let (mut left, mut values) = (old_store, old_outputs);
+        let expected = reference::clock(&netlist, &samples, &mut left, &mut values);
+        assert_eq!((number, place), returned(&expected));
+        assert_eq!((store, outputs), (left, values));
+    });
+    met.assert_exactly("clock", &[0, 6, 7, 8, 9, 10, 11, 12, 15, 16, 21], 100);
 }

@@ -56,7 +56,7 @@ module _ (c : tie.Else2) where
   d = c .before .before
 
   held : NetlistHeld (b d) (d .netlist .last .1 .0)
-  held = d .netlist .ensures .1 (c .if2 .left)
+  held = d .netlist .ensures .1 (c .if2 .left) .0
 
   reads : readNetlist (b d) ≡ accepted (netlistIn (b d))
   reads = held .read .netlist-read

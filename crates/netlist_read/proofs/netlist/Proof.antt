@@ -89,7 +89,7 @@ returns-3 : tie.Need-returns-3
 returns-3 c = let p = c .before in let x = p .before .before .before in (
   answer-fields (b x) (head x) (c .totals-at .result) (a x .head-at .ensures) (c .totals-at .ensures ∙ ap (totalsAt (b x)) (there p))
       ∙ answer-accepted (b x) (netlistIn (b x)) (held x .read .netlist-read),
-  λ z. held x,
+  λ z. (held x, r x .records .ensures .depths-held (x .if2 .left)),
 )
 
 pub netlist-spec : {M : Type 1} → statement M

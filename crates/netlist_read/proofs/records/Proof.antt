@@ -72,6 +72,7 @@ returns : tie.Need-returns
 returns c = let d = c .before .before in record {
   answer = declined (readOperations (b (s d)) (headAt (b (s d)))) (readNetlist (b (s d))) (d .read-operations .result) (operations d .answer) (c .if1 .taken) (operations-decline (b (s d)) (due (s d)));
   held = λ z. absurd (c .if1 .taken z);
+  depths-held = λ z. absurd (c .if1 .taken z);
 }
 
 read-outputs-requires : tie.Need-read-outputs-requires
@@ -100,6 +101,7 @@ returns-2 c = let o = c .before .before in let b' = b (S o) in record {
   answer = declined (readOutputs b' (headAt b') (operationsIn b')) (readNetlist b') (o .read-outputs .result) (outputs o .answer) (c .if2 .taken)
       (outputs-decline b' (due (S o)) (all o));
   held = λ z. absurd (c .if2 .taken z);
+  depths-held = λ z. absurd (c .if2 .taken z);
 }
 
 cast-output-place : tie.Need-cast-output-place
@@ -156,6 +158,7 @@ returns-3 c = let t = c .before in let last = totalsRefusal (B t) (totalsPlaceIn
   answer = stop-answer (readNetlist (B t)) (t .totals-refusal .result) last (place t) (number t)
       (totals-decline (B t) (due (S (o t))) (all (o t)) (rows t) (λ z. c .if3 .taken (number t ∙ z)) ∙ ap (refused last) (sym (there t)));
   held = λ z. absurd (c .if3 .taken z);
+  depths-held = λ z. absurd (c .if3 .taken z);
 }
 
 add-if4 : tie.Need-add-if4
@@ -176,6 +179,7 @@ returns-4 c = let y = c .before in let T = t y in record {
   answer = stop-answer (readNetlist (B T)) 12 12 (place T + totalsLength) refl
       (leftover (B T) (due (S (o T))) (all (o T)) (rows T) (right y) (omega (arith, there T, c .if4 .taken)) ∙ ap (λ (p : ℕ). refused 12 (p + totalsLength)) (sym (there T)));
   held = λ z. absurd (omega arith);
+  depths-held = λ z. absurd (omega arith);
 }
 
 module _ (c : tie.Else4) where
@@ -202,6 +206,7 @@ returns-5 c = record {
     };
     forms-held = forms-held c;
   };
+  depths-held = λ z. operations (d (o (t (y c)))) .depths-held (e (o (t (y c))) .if1 .left);
 }
 
 pub records-spec : {M : Type 1} → statement M

@@ -18,10 +18,10 @@ returns : tie.Need-returns
 returns c = width-refused _ (c .before .before .netlist .result) (c .before .before .netlist .ensures .0) (c .if1 .taken)
 
 head-at-requires : tie.Need-head-at-requires
-head-at-requires c κs = head-due _ (c .before .before .netlist .ensures .1 (c .if1 .left) .read .head-due) .0
+head-at-requires c κs = head-due _ (c .before .before .netlist .ensures .1 (c .if1 .left) .0 .read .head-due) .0
 
 returns-2 : tie.Need-returns-2
-returns-2 c = let e = c .before in width-accepted _ (c .head-at .result) (c .head-at .ensures) (e .before .before .netlist .ensures .1 (e .if1 .left) .read .netlist-read)
+returns-2 c = let e = c .before in width-accepted _ (c .head-at .result) (c .head-at .ensures) (e .before .before .netlist .ensures .1 (e .if1 .left) .0 .read .netlist-read)
 
 pub sample-width-spec : {M : Type 1} → statement M
 sample-width-spec =

@@ -4,21 +4,22 @@ use Prim.Native.Nat.{ℕ, _-_, _≤_, _<_}
 use mathlib.Core.List.{List}
 use native.Mathlib.Omega.{arith}
 use native.Mathlib.Numerals.{add-one}
+use lib.Dec.{lit≤}
 use lib.IntN.{ℤ, pos}
-use lib.ListN.{length, getD, take, drop, length-take}
-use lib.Seq.{getD-take}
+use lib.ListN.{length, getD, drop}
 use borrow.Author.Tests.{not-true, not-false}
-use Rattle.integers.proofs.Held.{is, held}
+use mir.Syntax.{w32, w64}
+use Rattle.integers.proofs.Held.{need-widen, widened}
 use Rattle.netlist_rules.specs.Run.{fits, fitAnswer}
 use Rattle.netlist_run.proofs.BoardLaws.{sample-fits, sample-outside, no-sample-left}
 use Rattle.netlist_run.proofs.fit_answer.Statement.{statement}
 use Rattle.netlist_run.proofs.fit_answer.Tie as tie
 
 abbrev Inv-loop : tie.InvT-loop
-Inv-loop values n s i₀ i = (i ≤ n) × (fitAnswer s i (drop i (take n values)) ≡ fitAnswer s 0 (take n values))
+Inv-loop samples s count i₀ i = (i ≤ count) × (fitAnswer s i (drop i samples) ≡ fitAnswer s 0 samples)
 
 abbrev μ-loop : tie.MeasureT-loop
-μ-loop values n s i₀ i = n - i
+μ-loop samples s count i₀ i = count - i
 
 loop-holds : tie.Need-loop-holds Inv-loop μ-loop
 loop-holds c = (omega arith, refl)
@@ -26,11 +27,14 @@ loop-holds c = (omega arith, refl)
 mul-x : tie.Need-mul-x Inv-loop μ-loop
 mul-x c = omega arith
 
-element-copy-out-x : tie.Need-element-copy-out-x Inv-loop μ-loop
-element-copy-out-x c = omega arith
+shared-slice-copy-out-x : tie.Need-shared-slice-copy-out-x Inv-loop μ-loop
+shared-slice-copy-out-x c = omega arith
+
+cast-x : tie.Need-cast-x Inv-loop μ-loop
+cast-x c = let l = c .before .before in need-widen w32 w64 (lit≤ tt) {z = getD (l .before .args .samples .now) (l .loop .i) (pos 0)} (record { sfits = c .x .given })
 
 sample-fits-requires : tie.Need-sample-fits-requires Inv-loop μ-loop
-sample-fits-requires c κs = c .before .before .before .pre .0
+sample-fits-requires c κs = c .before .before .before .pre
 
 module _ (c : tie.After-sample-fits Inv-loop μ-loop) where
   abbrev l : tie.At-loop Inv-loop μ-loop
@@ -43,17 +47,17 @@ module _ (c : tie.After-sample-fits Inv-loop μ-loop) where
   s = start .args .s
 
   abbrev samples : List ℤ
-  samples = take (start .args .n) (start .args .values .now)
+  samples = start .args .samples .now
 
   abbrev i : ℕ
   i = l .loop .i
 
   among : i < length samples
-  among = omega (arith, length-take (start .args .n) (start .args .values .now), c .before .before .loop-test .taken)
+  among = omega arith
 
   tested : fits s (getD samples i (pos 0)) ≡ c .sample-fits .result
   tested =
-      ap (fits s) (getD-take (start .args .n) (start .args .values .now) i (pos 0) (omega (arith, c .before .before .loop-test .taken)) ∙ sym (is (held (record { sfits = c .before .x .given }))))
+      ap (fits s) (sym (widened w32 w64 (lit≤ tt) {z = getD samples i (pos 0)} (record { sfits = c .before .x .given })))
       ∙ sym (c .sample-fits .ensures)
 
 returns : tie.Need-returns Inv-loop μ-loop
@@ -70,8 +74,8 @@ loop-again c = let d = c .before in
     rw add-one (omega arith, sym (sample-fits (s d) (samples d) (i d) (among d) (tested d ∙ not-false _ (c .if1 .left))) ∙ l d .loop .inv .1)
 
 returns-2 : tie.Need-returns-2 Inv-loop μ-loop
-returns-2 c = let l = c .before in let s = l .before in let samples = take (s .args .n) (s .args .values .now) in
-    sym (no-sample-left (s .args .s) samples (l .loop .i) (omega (arith, length-take (s .args .n) (s .args .values .now), c .loop-test .left))) ∙ l .loop .inv .1
+returns-2 c = let l = c .before in let s = l .before in let samples = s .args .samples .now in
+    sym (no-sample-left (s .args .s) samples (l .loop .i) (omega arith)) ∙ l .loop .inv .1
 
 pub fit-answer-spec : {M : Type 1} → statement M
 fit-answer-spec =
@@ -81,7 +85,8 @@ fit-answer-spec =
     μ-loop
     loop-holds
     mul-x
-    element-copy-out-x
+    shared-slice-copy-out-x
+    cast-x
     sample-fits-requires
     returns
     add-i

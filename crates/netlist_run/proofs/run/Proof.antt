@@ -1,5 +1,5 @@
 -- `netlist_run::run` meets its contract. Assumes nothing.
-use mathlib.Core.Path.{_≡_, sym, ap, ap₂, _∙_, subst}
+use mathlib.Core.Path.{_≡_, sym, ap, _∙_, subst}
 use Prim.Native.Nat.{ℕ, _+_, _≤_}
 use mathlib.Core.List.{List}
 use native.Mathlib.Omega.{arith}
@@ -56,7 +56,7 @@ module _ (c : tie.Else1) where
   d = c .before .before
 
   N : NetlistRead (b d)
-  N = d .netlist .ensures .1 (c .if1 .left) .read
+  N = d .netlist .ensures .1 (c .if1 .left) .0 .read
 
   reads : readNetlist (b d) ≡ accepted (netlistIn (b d))
   reads = N .netlist-read
@@ -86,9 +86,6 @@ returns-3 : tie.Need-returns-3
 returns-3 c = let e = c .before .before .before .before in let D = d e in
     outputs-differ (b D) (xs D) (outs D) (netlistIn (b D)) (reads e) (c .before .if2 .left ∙ n-is e) (λ z. c .if3 .taken (z ∙ sym (m-is e)))
 
-blank-values-requires : tie.Need-blank-values-requires
-blank-values-requires c κs = search needs
-
 -- the samples are n, the outputs lent m
 module _ (c : tie.Else3) where
   abbrev e : tie.Else1
@@ -103,20 +100,12 @@ module _ (c : tie.Else3) where
   few : n ≤ maxColumns
   few = omega (arith, n-is e, head-limits (b (d e)) (N e) .limits .columns-most)
 
-start-values-requires : tie.Need-start-values-requires
-start-values-requires c κs = let v = c .before in let x = v .before in
-    (omega (arith, count x, few x), ap (λ (l : List ℤ). length l) (v .blank-values .ensures) ∙ length-filled (pos 0) maxSymbols)
-
 head-at-requires : tie.Need-head-at-requires
-head-at-requires c κs = let E = e (c .before .before .before) in head-there (b (d E)) (N E) .0
+head-at-requires c κs = let E = e c in head-there (b (d E)) (N E) .0
 
--- they are in the table
 module _ (c : tie.After-head-at) where
-  abbrev v : tie.After-start-values
-  v = c .before
-
   abbrev x : tie.Else3
-  x = v .before .before .before
+  x = c .before
 
   abbrev E : tie.Else1
   E = e x
@@ -124,54 +113,63 @@ module _ (c : tie.After-head-at) where
   abbrev B : List ℕ
   B = b (d E)
 
-  abbrev values : List ℤ
-  values = v .start-values .last .1 .0
-
-  started : take (n x) values ≡ xs (d E)
-  started = ap (λ (k : ℕ). take k values) (sym (count x)) ∙ v .start-values .ensures .held
-
   width-is : c .head-at .result .width ≡ headAt B .width
   width-is = ap (λ (h : Head). h .width) (c .head-at .ensures)
 
 fit-answer-requires : tie.Need-fit-answer-requires
-fit-answer-requires c κs = let h = c .before in
-    (subst SampleWidth (sym (width-is h)) (head-limits (B h) (N (E h)) .width), (few (x h), v h .start-values .ensures .room))
+fit-answer-requires c κs = subst SampleWidth (sym (width-is c)) (head-limits (B c) (N (E c)) .width)
 
--- and tested
+-- they are tested
 module _ (c : tie.After-fit-answer) where
   abbrev h : tie.After-head-at
-  h = c .before .before
+  h = c .before
 
   answer-is : c .fit-answer .result ≡ fitAnswer (headAt (B h) .width) 0 (xs (d (E h)))
-  answer-is = c .fit-answer .ensures ∙ ap₂ (λ (s : ℕ) (l : List ℤ). fitAnswer s 0 l) (width-is h) (started h)
+  answer-is = c .fit-answer .ensures ∙ ap (λ (s : ℕ). fitAnswer s 0 (xs (d (E h)))) (width-is h)
 
 returns-4 : tie.Need-returns-4
 returns-4 c = let f = c .before .before in let H = h f in let D = d (E H) in
     samples-outside (B H) (xs D) (outs D) (netlistIn (B H)) (reads (E H)) (count (x H) ∙ n-is (E H)) (x H .if3 .left ∙ m-is (E H)) (f .fit-answer .result) (answer-is f) (c .if4 .taken)
 
+blank-values-requires : tie.Need-blank-values-requires
+blank-values-requires c κs = search needs
+
+start-values-requires : tie.Need-start-values-requires
+start-values-requires c κs = let v = c .before in let X = x (h (v .before .before .before)) in
+    (omega (arith, count X, few X), ap (λ (l : List ℤ). length l) (v .blank-values .ensures) ∙ length-filled (pos 0) maxSymbols)
+
 due-length-requires : tie.Need-due-length-requires
-due-length-requires c κs = let E' = E (h (c .before .before)) in head-there (b (d E')) (N E') .1
+due-length-requires c κs = let E' = E (h (c .before .before .before .before .before)) in head-there (b (d E')) (N E') .1
 
 cast-operations : tie.Need-cast-operations
 cast-operations c = search needs
 
--- they fit
+-- they fit, and are in the table
 module _ (c : tie.After-due-length) where
+  abbrev v : tie.After-start-values
+  v = c .before
+
   abbrev y : tie.Else4
-  y = c .before
+  y = v .before .before .before
 
   abbrev H : tie.After-head-at
   H = h (y .before .before)
 
+  abbrev values : List ℤ
+  values = v .start-values .last .1 .0
+
+  started : take (n (x H)) values ≡ xs (d (E H))
+  started = ap (λ (k : ℕ). take k values) (sym (count (x H))) ∙ v .start-values .ensures .held
+
   of-width : Samples (headAt (B H) .width) (n (x H)) (xs (d (E H)))
   of-width = fit-samples-only (count (x H)) (sym (ap (λ (a : RunAnswer). a .refusal) (answer-is (y .before .before))) ∙ y .if4 .left)
 
-  in-table : Samples (headAt (B H) .width) (n (x H)) (take (n (x H)) (values H))
-  in-table = subst (Samples (headAt (B H) .width) (n (x H))) (sym (started H)) of-width
+  in-table : Samples (headAt (B H) .width) (n (x H)) (take (n (x H)) values)
+  in-table = subst (Samples (headAt (B H) .width) (n (x H))) (sym started) of-width
 
 run-operations-requires : tie.Need-run-operations-requires
 run-operations-requires c κs = let s = c .before .before in let H' = H s in
-    ((N (E H'), s .due-length .ensures), ((n-is (E H'), operations-is (E H')), (v H' .start-values .ensures .room, in-table s)))
+    ((N (E H'), s .due-length .ensures), ((n-is (E H'), operations-is (E H')), (v s .start-values .ensures .room, in-table s)))
 
 -- the board machine has run
 module _ (c : tie.After-run-operations) where
@@ -184,13 +182,13 @@ module _ (c : tie.After-run-operations) where
   abbrev entries : List ℤ
   entries = c .run-operations .last .1 .1 .1 .1 .0
 
-  ran : take (headAt (B T) .n + headAt (B T) .operations) entries ≡ machine (take (n (x T)) (values T)) (operationsIn (B T))
+  ran : take (headAt (B T) .n + headAt (B T) .operations) entries ≡ machine (take (n (x T)) (values s')) (operationsIn (B T))
   ran = ap (λ (k : ℕ). take (k + headAt (B T) .operations) entries) (sym (n-is (E T))) ∙ ap (λ (k : ℕ). take (n (x T) + k) entries) (sym (operations-is (E T))) ∙ c .run-operations .ensures .1
 
   ready : BoardReady (B T) entries
   ready = record {
     room = c .run-operations .ensures .0;
-    small = value-small (B T) (N (E T)) (take (n (x T)) (values T)) (subst (λ (k : ℕ). Samples (headAt (B T) .width) k (take (n (x T)) (values T))) (n-is (E T)) (in-table s'))
+    small = value-small (B T) (N (E T)) (take (n (x T)) (values s')) (subst (λ (k : ℕ). Samples (headAt (B T) .width) k (take (n (x T)) (values s'))) (n-is (E T)) (in-table s'))
         (headAt (B T) .operations) entries ran (omega arith);
   }
 
@@ -207,7 +205,7 @@ returns-5 c = let f = c .before in let r = f .before .before .before in let H' =
     (subst (λ (k : ℕ). Samples (headAt (B H') .width) k (xs D)) (n-is (E H')) (of-width (s' r))) in (
       fit .0,
       f .fill-outputs .ensures
-          ∙ outputs-same (B H') (N (E H')) (machine (xs D) (operationsIn (B H'))) (entries r) (ran r ∙ ap (λ (l : List ℤ). machine l (operationsIn (B H'))) (started H'))
+          ∙ outputs-same (B H') (N (E H')) (machine (xs D) (operationsIn (B H'))) (entries r) (ran r ∙ ap (λ (l : List ℤ). machine l (operationsIn (B H'))) (started (s' r)))
           ∙ fit .1,
     )
 
@@ -223,11 +221,11 @@ run-spec =
     cast-m
     returns-2
     returns-3
-    blank-values-requires
-    start-values-requires
     head-at-requires
     fit-answer-requires
     returns-4
+    blank-values-requires
+    start-values-requires
     due-length-requires
     cast-operations
     run-operations-requires

@@ -1,16 +1,16 @@
 -- `netlist_run::start_values` meets its contract. The samples before j are in the table. Assumes nothing.
 use mathlib.Core.Path.{_≡_, refl, _∙_, subst}
-use Prim.Native.Nat.{ℕ, _-_, _^_, _≤_, _<_}
+use Prim.Native.Nat.{ℕ, _-_, _≤_}
 use native.Mathlib.Omega.{arith}
 use native.Mathlib.Numerals.{add-one}
-use lib.IntN.{ℤ, pos}
+use lib.Dec.{lit≤}
+use lib.IntN.{pos}
 use lib.ListN.{length, getD, take, length-set}
 use lib.Seq.{take-length}
-use lib.Signed.{mag}
 use mir.Syntax.{w32, w64}
-use mir.Val.{SFits, toZ, ofZ}
+use mir.Val.{toZ, ofZ}
 use Rattle.limits.specs.Limits.{maxSymbols}
-use Rattle.integers.proofs.Held.{is, held, need-cast, held-cast}
+use Rattle.integers.proofs.Held.{need-widen, widened}
 use Rattle.netlist_run.proofs.BoardLaws.{sample-next}
 use Rattle.netlist_run.proofs.start_values.Statement.{statement}
 use Rattle.netlist_run.proofs.start_values.Tie as tie
@@ -20,15 +20,6 @@ Inv-loop samples values₀ n j₀ values j = (j ≤ n) × ((length values ≡ ma
 
 abbrev μ-loop : tie.MeasureT-loop
 μ-loop samples values₀ n j₀ values j = n - j
-
-wider : (z : ℤ) → mag z < 2 ^ 31 → SFits w64 z
-wider z ok = record { sfits = omega (arith, ok) }
-
-fits-wide : (z : ℤ) → mag z < 2 ^ 31 → SFits w64 (toZ w32 (ofZ w32 z))
-fits-wide z ok = need-cast w64 (held (record { sfits = ok })) (wider z ok)
-
-copied : (z : ℤ) → mag z < 2 ^ 31 → toZ w64 (ofZ w64 (toZ w32 (ofZ w32 z))) ≡ z
-copied z ok = is (held-cast w64 (held (record { sfits = ok })) (wider z ok))
 
 loop-holds : tie.Need-loop-holds Inv-loop μ-loop
 loop-holds c = (omega arith, (c .pre .1, refl))
@@ -40,7 +31,7 @@ shared-slice-copy-out-values : tie.Need-shared-slice-copy-out-values Inv-loop μ
 shared-slice-copy-out-values c = omega arith
 
 cast-values : tie.Need-cast-values Inv-loop μ-loop
-cast-values c = let l = c .before .before in fits-wide (getD (l .before .args .samples .now) (l .loop .j) (pos 0)) (c .values .given)
+cast-values c = let l = c .before .before in need-widen w32 w64 (lit≤ tt) {z = getD (l .before .args .samples .now) (l .loop .j) (pos 0)} (record { sfits = c .values .given })
 
 mul-t10 : tie.Need-mul-t10 Inv-loop μ-loop
 mul-t10 c = omega arith
@@ -60,7 +51,7 @@ loop-again c = let l = c .before .before in let samples = l .before .args .sampl
       omega arith,
       (
         length-set (l .loop .values) j (toZ w64 (ofZ w64 (toZ w32 (ofZ w32 z)))) ∙ l .loop .inv .1 .0,
-        sample-next samples (l .loop .values) j (toZ w64 (ofZ w64 (toZ w32 (ofZ w32 z)))) (omega arith) (omega arith) (copied z (c .values .given)) (l .loop .inv .1 .1),
+        sample-next samples (l .loop .values) j (toZ w64 (ofZ w64 (toZ w32 (ofZ w32 z)))) (omega arith) (omega arith) (widened w32 w64 (lit≤ tt) {z = z} (record { sfits = c .values .given })) (l .loop .inv .1 .1),
       ),
     )
 

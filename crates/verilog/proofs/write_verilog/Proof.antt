@@ -46,7 +46,7 @@ module _ (c : tie.Else1) where
   d = c .before .before
 
   N : NetlistRead (b d)
-  N = d .netlist .ensures .1 (c .if1 .left) .read
+  N = d .netlist .ensures .1 (c .if1 .left) .0 .read
 
 write-module-requires : tie.Need-write-module-requires
 write-module-requires c κs = (N (c .before .before), omega (arith, c .before .blank-text .ensures))

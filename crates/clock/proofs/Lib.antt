@@ -1,0 +1,2 @@
+-- Laws of a list through the clocked form.
+pub mod ListLaws

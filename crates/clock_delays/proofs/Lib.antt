@@ -1,0 +1,4 @@
+-- Laws of the tables of delays.
+pub mod Entered
+pub mod Placed
+pub mod Read

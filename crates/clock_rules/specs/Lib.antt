@@ -1,0 +1,9 @@
+pub mod Delays
+pub mod Clocked
+pub mod Answer
+pub mod Tests
+pub mod Pipelined
+pub mod Claim
+pub mod InPlace
+pub mod Tables
+pub mod Marked

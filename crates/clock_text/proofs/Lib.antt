@@ -1,0 +1,5 @@
+-- Theorems about the text of clock-bank, lowest first.
+pub mod Lines
+pub mod ListBytes
+pub mod Texts
+pub mod Examples

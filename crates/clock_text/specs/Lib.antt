@@ -1,0 +1,4 @@
+pub mod Lines
+pub mod ListBytes
+pub mod ClockText
+pub mod Examples
