@@ -107,6 +107,8 @@ fn clock_vectors(
     ensures { λ r. ⌜ now (store .exit) ≡ storeFrom (netlistIn (now (netlist .entry))) (now (store .entry)) (vectorsOf n clocks (now (samples .entry))) ⌝ }
     ensures { λ r. ⌜ now (outputs .exit) ≡ inOrder (outputsFrom (netlistIn (now (netlist .entry))) (now (store .entry)) (vectorsOf n clocks (now (samples .entry)))) ⌝ }
 {
+    let mut waiting = clock_delays::blank_table();
+    let entries = clock_delays::fill_waiting(longest, n + operations, &mut waiting);
     let mut values = blank_values();
     let mut from: usize = 0;
     let mut to: usize = 0;
@@ -116,6 +118,8 @@ fn clock_vectors(
             start,
             operations,
             longest,
+            &waiting,
+            entries,
             firsts,
             seconds,
             sources,

@@ -2,3 +2,4 @@
 pub mod Entered
 pub mod Placed
 pub mod Read
+pub mod Waiting

@@ -1,5 +1,5 @@
-// Document 01, "One vector every clock": the longest delay of each symbol of a netlist, the places of the delays in the store, and the total
-// of the registers, as `clock_rules` has them. Rests on `netlist_read` and on `layout_head`.
+// Document 01, "One vector every clock": the longest delay of each symbol of a netlist, the places of the delays in the store, the symbols
+// with delays, and the total of the registers, as `clock_rules` has them. Rests on `netlist_read` and on `layout_head`.
 use clock_rules::RegistersAnswer;
 use layout_head::due_length;
 use layout_records::places::operation_place;
@@ -16,7 +16,7 @@ ghost use Rattle.layout_rules.specs.Places.{headLengthIn, headAt, netlistIn};
 ghost use Rattle.board_rules.specs.Table.{filled};
 ghost use Rattle.netlist_read.specs.Tables.{NetlistRead};
 ghost use Rattle.clock_rules.specs.Delays.{delayBy, netlistDepth, operandDelays, registers};
-ghost use Rattle.clock_rules.specs.Tables.{SymbolDepths, entered, LongestHeld, PlacesHeld};
+ghost use Rattle.clock_rules.specs.Tables.{SymbolDepths, entered, LongestHeld, PlacesHeld, WaitingHeld};
 ghost use Rattle.clock_rules.specs.Answer.{registersAnswer};
 
 pub fn blank_table() -> [usize; MAX_SYMBOLS]
@@ -153,6 +153,25 @@ pub fn fill_places(
         at += longest[symbol];
     }
     at
+}
+
+// The symbols with delays, ascending, and how many entries they are.
+pub fn fill_waiting(
+    longest: &[usize; MAX_SYMBOLS],
+    symbols: usize,
+    waiting: &mut [usize; MAX_SYMBOLS],
+) -> usize
+    requires { ⌜ (length (now longest) ≡ maxSymbols) × ((symbols ≤ maxSymbols) × (length (now waiting) ≡ maxSymbols)) ⌝ }
+    ensures { λ r. ⌜ WaitingHeld (now (longest .entry)) symbols (now (waiting .exit)) r ⌝ }
+{
+    let mut entries: usize = 0;
+    for symbol in 0..symbols {
+        if longest[symbol] != 0 {
+            waiting[entries] = symbol;
+            entries += 1;
+        }
+    }
+    entries
 }
 
 // The total of a netlist's registers, for any bytes.

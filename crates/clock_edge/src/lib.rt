@@ -18,7 +18,7 @@ ghost use Rattle.board_rules.specs.Machine.{entryAt};
 ghost use Rattle.netlist_read.specs.Tables.{NetlistRead};
 ghost use Rattle.clock_rules.specs.Clocked.{presentOutputs, operationsAfter, edge};
 ghost use Rattle.clock_rules.specs.InPlace.{shiftedIn, shiftedBy, delaysIn};
-ghost use Rattle.clock_rules.specs.Tables.{LongestHeld, OperandsHeld, OutputsHeld, StoreReady};
+ghost use Rattle.clock_rules.specs.Tables.{LongestHeld, WaitingHeld, OperandsHeld, OutputsHeld, StoreReady};
 
 // The value at a place of the vector followed by the store.
 fn value_at(samples: &[i32], store: &[i64], source: usize) -> i64
@@ -95,20 +95,23 @@ fn shift_in(store: &mut [i64], place: usize, count: usize, value: i64)
     }
 }
 
-// Each symbol's value goes into its delays, which begin behind the operations' registers.
+// Each waiting symbol's value goes into its delays, which begin behind the operations' registers; the other symbols have none.
 fn shift_delays(
     samples: &[i32],
     store: &mut [i64],
     operations: usize,
     longest: &[usize; MAX_SYMBOLS],
+    waiting: &[usize; MAX_SYMBOLS],
+    entries: usize,
 )
     requires { ⌜ (length (now longest) ≡ maxSymbols) × (length (now samples) + operations ≤ maxSymbols) ⌝ }
+    requires { ⌜ WaitingHeld (now longest) (length (now samples) + operations) (now waiting) entries ⌝ }
     requires { ⌜ operations + delaysIn (now longest) 0 (length (now samples) + operations) ≤ length (now store) ⌝ }
     ensures { λ r. ⌜ now (store .exit) ≡ shiftedBy (now (longest .entry)) (now (samples .entry)) (now (store .entry)) operations 0 (length (now (samples .entry)) + operations) ⌝ }
 {
-    let symbols = samples.len() + operations;
     let mut place = operations;
-    for symbol in 0..symbols {
+    for j in 0..entries {
+        let symbol = waiting[j];
         let value = value_at(samples, store, symbol);
         let count = longest[symbol];
         shift_in(store, place, count, value);
@@ -132,6 +135,8 @@ pub fn one_clock(
     start: usize,
     operations: usize,
     longest: &[usize; MAX_SYMBOLS],
+    waiting: &[usize; MAX_SYMBOLS],
+    entries: usize,
     firsts: &[usize; MAX_OPERATIONS],
     seconds: &[usize; MAX_OPERATIONS],
     sources: &[usize; MAX_ROWS],
@@ -142,6 +147,7 @@ pub fn one_clock(
 )
     requires { ⌜ NetlistRead (now netlist) × ((start ≡ headLengthIn (now netlist)) × (operations ≡ headAt (now netlist) .operations)) ⌝ }
     requires { ⌜ LongestHeld (netlistIn (now netlist)) (now longest) × (OperandsHeld (now netlist) (now firsts) (now seconds) × OutputsHeld (now netlist) (now sources)) ⌝ }
+    requires { ⌜ WaitingHeld (now longest) (length (now samples) + operations) (now waiting) entries ⌝ }
     requires { ⌜ StoreReady (netlistIn (now netlist)) (now samples) (now store) ⌝ }
     requires { ⌜ (length (now values) ≡ maxOperations) × (length (now outputs) ≡ headAt (now netlist) .m) ⌝ }
     ensures { λ r. ⌜ (length (now (values .exit)) ≡ maxOperations) × (now (store .exit) ≡ edge (netlistIn (now (netlist .entry))) (now (samples .entry)) (now (store .entry))) ⌝ }
@@ -158,6 +164,6 @@ pub fn one_clock(
         store,
         values,
     );
-    shift_delays(samples, store, operations, longest);
+    shift_delays(samples, store, operations, longest, waiting, entries);
     store_values(values, operations, store);
 }

@@ -6,14 +6,14 @@ use mathlib.Core.List.{List, _∷_, _++_, append-assoc}
 use native.Mathlib.Omega.{arith}
 use native.Mathlib.Decide.{decLt}
 use lib.IntN.{ℤ, pos}
-use lib.ListN.{length, take, drop, set, take-append-drop, length-append, length-drop, length-set, List·getD-append}
+use lib.ListN.{length, take, drop, getD, set, take-append-drop, length-append, length-drop, length-set, List·getD-append}
 use lib.Seq.{take-suc-set, drop-set-lt, drop-cons, append-snoc, take-at, drop-at, drop-append-add, drop-drop, getD-drop, getD-take, getD-append-add, length-take-le, sets, sets-eq, ext-getD}
 use Rattle.layout_rules.specs.Records.{Netlist}
 use Rattle.board_rules.specs.Machine.{entryAt}
 use Rattle.layout_rules.proofs.FirstRecords.{length-first, getD-first}
 use Rattle.clock_rules.specs.Delays.{symbols, longestDelay, delaysBelow, registers, delayPlace}
 use Rattle.clock_rules.specs.Clocked.{delayed, operationsAfter, symbolAfter, delaysAfter, edge}
-use Rattle.clock_rules.specs.Tables.{LongestHeld}
+use Rattle.clock_rules.specs.Tables.{LongestHeld, NoDelays}
 use Rattle.clock_rules.specs.InPlace.{shiftedIn, delaysShifted, shiftedBy, delaysIn, edgeInPlace}
 use Rattle.clock_rules.proofs.DelayLaws.{delays-below-next, length-delays-after, length-operations-after}
 
@@ -164,3 +164,40 @@ module _ (net : Netlist) (longest : List ℕ) (table : LongestHeld net longest) 
     unfolding edgeInPlace
     edge-by-table size room =
         ap (λ l. sets l 0 (operationsAfter net xs store (net .head .n) (net .operations))) shifted-by-is ∙ edge-in-place net xs store size room
+
+-- ---- symbols without delays are passed over
+
+module _ (longest : List ℕ) where
+  delays-past : (symbol more : ℕ) → getD longest symbol 0 ≡ 0 → delaysIn longest symbol (suc more) ≡ delaysIn longest (suc symbol) more
+  unfolding delaysIn
+  delays-past symbol more none = omega arith
+
+  shifted-past : (xs store : List ℤ) (place symbol more : ℕ) → getD longest symbol 0 ≡ 0
+      → shiftedBy longest xs store place symbol (suc more) ≡ shiftedBy longest xs store place (suc symbol) more
+  unfolding shiftedBy shiftedIn
+  shifted-past xs store place symbol more none = let e : place + 0 ≡ place = omega arith in rw (none, e) refl
+
+  -- what a step past one symbol leaves as it is, steps past more of them leave as it is
+  over : {A : Type 0} (f : ℕ → ℕ → A) → ((symbol more : ℕ) → getD longest symbol 0 ≡ 0 → f symbol (suc more) ≡ f (suc symbol) more)
+      → (d from more : ℕ) → NoDelays longest from (from + d) → f from (d + more) ≡ f (from + d) more
+  over f past zero from more none = let e : from + 0 ≡ from = omega arith in let g : 0 + more ≡ more = omega arith in rw (e, g) refl
+  over f past (suc d) from more none =
+      let e : suc d + more ≡ suc (d + more) = omega arith in
+      let g : from + suc d ≡ suc from + d = omega arith in
+      rw (e, g) (past from (d + more) (none from (omega arith) (omega arith)) ∙ over f past d (suc from) more (λ s l u. none s (omega arith) (omega arith)))
+
+  -- up to a symbol, of all that are left
+  module _ (symbols from to : ℕ) (h : from ≤ to) (l : to ≤ symbols) (none : NoDelays longest from to) where
+    over-to : {A : Type 0} (f : ℕ → ℕ → A) → ((symbol more : ℕ) → getD longest symbol 0 ≡ 0 → f symbol (suc more) ≡ f (suc symbol) more)
+        → f from (symbols - from) ≡ f to (symbols - to)
+    over-to f past =
+        let there : from + (to - from) ≡ to = omega arith in
+        let left : to - from + (symbols - to) ≡ symbols - from = omega arith in
+        rw (left, there) at (over f past (to - from) from (symbols - to) (λ s i u. none s i (omega arith)))
+
+    pub no-delays-in : delaysIn longest from (symbols - from) ≡ delaysIn longest to (symbols - to)
+    no-delays-in = over-to (delaysIn longest) delays-past
+
+    pub none-shifted : (xs store : List ℤ) (place : ℕ)
+        → shiftedBy longest xs store place from (symbols - from) ≡ shiftedBy longest xs store place to (symbols - to)
+    none-shifted xs store place = over-to (shiftedBy longest xs store place) (shifted-past xs store place)

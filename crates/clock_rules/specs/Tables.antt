@@ -1,7 +1,7 @@
--- What the tables of a program hold that clocks the netlist in bytes: depths, longest delays, the places of delays, and where each operand
--- and output is read.
+-- What the tables of a program hold that clocks the netlist in bytes: depths, longest delays, the places of delays, the symbols with delays,
+-- and where each operand and output is read.
 -- Assumes nothing.
-use Prim.Native.Nat.{ℕ, _+_, _*_, _≤_, _<_, max}
+use Prim.Native.Nat.{ℕ, zero, suc, _+_, _*_, _≤_, _<_, max}
 use mathlib.Core.Path.{_≡_}
 use mathlib.Core.List.{List, [], _∷_}
 use lib.IntN.{ℤ}
@@ -36,6 +36,24 @@ pub record LongestHeld (net : Netlist) (table : List ℕ) : Type 0 where
 pub record PlacesHeld (net : Netlist) (table : List ℕ) : Type 0 where
   pub room : length table ≡ maxSymbols
   pub held : (symbol : ℕ) → symbol < symbols net → getD table symbol 0 ≡ delayPlace net symbol
+
+-- the first symbol behind the first j entries of a table of ascending symbols
+abbrev pub behindEntry : List ℕ → ℕ → ℕ
+behindEntry waiting zero = 0
+behindEntry waiting (suc j) = suc (getD waiting j 0)
+
+-- from a symbol up to another there are no delays
+abbrev pub NoDelays : List ℕ → ℕ → ℕ → Type 0
+NoDelays longest from to = (symbol : ℕ) → from ≤ symbol → symbol < to → getD longest symbol 0 ≡ 0
+
+-- so many entries, ascending; a symbol between two of them has no delays, nor has one before the first or behind the last
+pub record WaitingHeld (longest : List ℕ) (symbols : ℕ) (waiting : List ℕ) (entries : ℕ) : Type 0 where
+  pub room : length waiting ≡ maxSymbols
+  pub few : entries ≤ symbols
+  pub ascending : (j : ℕ) → j < entries → behindEntry waiting j ≤ getD waiting j 0
+  pub below : (j : ℕ) → j < entries → getD waiting j 0 < symbols
+  pub between : (j : ℕ) → j < entries → NoDelays longest (behindEntry waiting j) (getD waiting j 0)
+  pub behind : NoDelays longest (behindEntry waiting entries) symbols
 
 -- ---- by operation and by output
 

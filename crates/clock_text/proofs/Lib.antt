@@ -2,4 +2,5 @@
 pub mod Lines
 pub mod ListBytes
 pub mod Texts
+pub mod Printed
 pub mod Examples

@@ -108,7 +108,7 @@ module _ (netlist bytes : List ℕ) where
       go zero e = absurd (h e)
       go (suc r) e = refused-text r e
 
-  no-clocks : (r place : ℕ) → readNetlist netlist ≡ refused r place → clocked .clocks ≡ 0
+  pub no-clocks : (r place : ℕ) → readNetlist netlist ≡ refused r place → clocked .clocks ≡ 0
   unfolding clockedAnswer readAnswer
   no-clocks r place e = ap (λ (x : Reading Netlist). vectorCount (readAnswerOf x .n) (length bytes / 4)) e
 
@@ -132,11 +132,11 @@ module _ (netlist bytes : List ℕ) where
       abbrev clocks : List (List ℤ)
       clocks = clockedOutputs net storeLent (vectorsIn net samples)
 
-      rows-are : clocked .rows ≡ net .head .m
+      pub rows-are : clocked .rows ≡ net .head .m
       unfolding clockedAnswer readAnswer
       rows-are = ap (λ (r : Reading Netlist). readAnswerOf r .m) reads
 
-      clocks-are : clocked .clocks ≡ length clocks
+      pub clocks-are : clocked .clocks ≡ length clocks
       unfolding clockedAnswer readAnswer
       clocks-are =
           ap (λ (r : Reading Netlist). vectorCount (readAnswerOf r .n) (length bytes / 4)) reads
@@ -148,7 +148,7 @@ module _ (netlist bytes : List ℕ) where
       list-answer count = sym (whole-answer netlist bytes whole count) ∙ rw (reads, clockAnswer)
 
       -- what clock leaves in as many outputs as it fills, whatever they held
-      outputs-left : (outputs : List ℤ) → length outputs ≡ outputsOf netlist bytes → bytesOutputs netlist bytes outputs ≡ inOrder clocks
+      pub outputs-left : (outputs : List ℤ) → length outputs ≡ outputsOf netlist bytes → bytesOutputs netlist bytes outputs ≡ inOrder clocks
       unfolding clockedAnswer
       outputs-left outputs count =
           let answer = list-answer (outputsOf netlist bytes) in
@@ -157,7 +157,7 @@ module _ (netlist bytes : List ℕ) where
           ∙ sym (list-accepts netlist samples storeLent outputs net reads (bytesAnswer netlist bytes (outputsOf netlist bytes)) (answer ∙ lent) accepts .outputs-left)
 
       module _ (all : AreBytes netlist) where
-        row-each : Vectors (net .head .m) clocks
+        pub row-each : Vectors (net .head .m) clocks
         row-each = rw (reads-netlist netlist all net .0 reads .netlist .one-per-row) at (outputs-whole net (cleared net storeLent) (vectorsIn net samples))
 
         lines-left : (outputs rest : List ℤ) → length outputs ≡ outputsOf netlist bytes

@@ -45,7 +45,7 @@ module _ (s : tie.Start) where
   L = s .pre .1 .0 .0
 
   S : StoreReady (netlistIn b) xs store
-  S = s .pre .1 .1 .0
+  S = s .pre .1 .1 .1 .0
 
   symbols-few : length xs + operations ≤ maxSymbols
   symbols-few = omega (arith, s .pre .0 .1 .1, S .size, head-limits b N .limits .columns-most, head-limits b N .few)
@@ -57,7 +57,7 @@ module _ (s : tie.Start) where
   operations-few = omega (arith, s .pre .0 .1 .1, head-limits b N .few)
 
 shift-delays-requires : tie.Need-shift-delays-requires
-shift-delays-requires c κs = let s = c .before .before .before .before .before .before .before .before .before in ((L s .room, symbols-few s), room s)
+shift-delays-requires c κs = let s = c .before .before .before .before .before .before .before .before .before in ((L s .room, symbols-few s), (s .pre .1 .1 .0, room s))
 
 store-values-requires : tie.Need-store-values-requires
 store-values-requires c κs = let s = c .before .before .before .before .before .before .before .before .before .before .before .before .before in
