@@ -13,7 +13,7 @@
  * A call may be lent NULL where the length is 0, as an empty file, an empty std::vector or malloc(0) may give it; a raw function
  * never.
  * A call keeps no pointer and uses no memory but its stack: a stack of 128 KB was enough for compile and write_verilog, 96 KB
- * for clock, 64 KB for registers, and 48 KB for the others.
+ * for clock, and 48 KB for the others.
  *
  * Request A8, samples of 8 to 24 bits: what a host has to change that was written when all had 16.
  * - zaatarloft_compile has a parameter more, the sample width, behind the matrix. Pass 16: the netlist has the bytes of before.
