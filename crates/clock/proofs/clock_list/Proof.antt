@@ -69,7 +69,7 @@ fill-outputs-requires c κs = let s = c .before .before .before .before .before 
     ((N s, s .pre .0 .1 .0), ((n-is s, (m-is s, operations-are s)), ((s .pre .1 .0 .0, (s .pre .1 .0 .1, s .pre .1 .1 .0 .1 .0)), refl)))
 
 clear-requires : tie.Need-clear-requires
-clear-requires c κs = c .before .before .before .before .before .before .before .before .before .before .before .before .pre .1 .1 .1 .1 .1
+clear-requires c κs = let s = c .before .before .before .before .before .before .before .before .before .before .before .before in omega (arith, s .pre .1 .1 .1 .1 .1)
 
 vector-count-requires : tie.Need-vector-count-requires
 vector-count-requires c κs = search needs

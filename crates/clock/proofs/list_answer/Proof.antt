@@ -22,7 +22,7 @@ module _ (s : tie.Start) where
   samples = s .args .samples .now
 
 returns : tie.Need-returns
-returns c = let s = c .before in sym (list-store-short (head s) (s .args .total) (samples s) (s .args .store) (s .args .outputs) (c .if1 .taken))
+returns c = let s = c .before in sym (list-store-short (head s) (s .args .total) (samples s) (s .args .store) (s .args .outputs) (omega (arith, c .if1 .taken)))
 
 cast-vector-count : tie.Need-cast-vector-count
 cast-vector-count c = search needs

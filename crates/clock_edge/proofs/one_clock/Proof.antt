@@ -61,7 +61,7 @@ shift-delays-requires c κs = let s = c .before .before .before .before .before 
 
 store-values-requires : tie.Need-store-values-requires
 store-values-requires c κs = let s = c .before .before .before .before .before .before .before .before .before .before .before .before .before in
-    (c .before .before .before .before .before .work-out .ensures .0, (operations-few s, omega (arith, room s, c .before .before .before .shift-delays .kept .1 .0)))
+    (c .before .before .before .before .before .work-out .ensures .0, (omega (arith, operations-few s), omega (arith, room s, c .before .before .before .shift-delays .kept .1 .0)))
 
 same-length : tie.Need-same-length
 same-length c = search needs
