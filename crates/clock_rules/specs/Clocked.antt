@@ -20,7 +20,7 @@ abbrev pub delayed : Netlist → List ℤ → List ℤ → ℕ → ℕ → ℤ
 delayed net xs store symbol zero = entryAt (xs ++ store) symbol
 delayed net xs store symbol (suc older) = entryAt store (delayPlace net symbol + older)
 
--- the outputs of this clock
+-- the outputs of this clock; a zero one is 0 by its sign, and has no delay that could be read
 abbrev pub presentOutput : Netlist → List ℤ → List ℤ → Output → ℤ
 presentOutput net xs store o = withSign (o .sign) (shifted (delayed net xs store (o .symbol) (outputDelay net (o .symbol))) (o .shift))
 

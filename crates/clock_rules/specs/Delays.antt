@@ -22,11 +22,13 @@ netlistDepth net = depth (net .head .n) (net .operations)
 
 -- ---- delays
 
--- "an operand that arrives early is delayed": by depth(operation) − 1 − depth(operand), an operation being given by its symbol
+-- "an operand that arrives early is delayed": by depth(operation) − 1 − depth(operand), an operation being given by its symbol;
+-- an operand is never as deep as its operation (first-shallower, second-shallower in proofs/InBytes.antt)
 abbrev pub operandDelay : Netlist → ℕ → ℕ → ℕ
 operandDelay net operation operand = symbolDepth net operation - 1 - symbolDepth net operand
 
--- "all outputs but zero ones are delayed to the netlist's depth": by the netlist's depth − depth(symbol)
+-- "all outputs but zero ones are delayed to the netlist's depth": by the netlist's depth − depth(symbol), which no
+-- symbol exceeds (depth-most in proofs/Depths.antt)
 abbrev pub outputDelay : Netlist → ℕ → ℕ
 outputDelay net symbol = netlistDepth net - symbolDepth net symbol
 

@@ -4,6 +4,7 @@ use Prim.Native.Nat.{ℕ}
 use mathlib.Core.Path.{_≡_}
 use mathlib.Core.List.{List, [], _∷_}
 use lib.IntN.{ℤ, pos, negsuc}
+use lib.ListN.{replicate}
 use Rattle.layout_rules.specs.declared.Operation.{Operation}
 use Rattle.layout_rules.specs.declared.Output.{Output}
 use Rattle.layout_rules.specs.Records.{Netlist}
@@ -105,7 +106,7 @@ pub record MarkedClocks : Type 0 where
   pub small-store : clockedStore small lent trace
       ≡ negsuc 12 ∷ pos 68 ∷ pos 0 ∷ pos 33 ∷ negsuc 3 ∷ pos 9 ∷ pos 1 ∷ pos 0 ∷ pos 11 ∷ pos 0 ∷ pos 11 ∷ pos 12 ∷ []
   pub compiled-registers : registers compiled ≡ 18
-  pub compiled-outputs : clockedOutputs compiled [] noise
+  pub compiled-outputs : clockedOutputs compiled (replicate 18 (pos 1)) noise
       ≡ (pos 0 ∷ pos 0 ∷ [])
       ∷ (pos 0 ∷ pos 0 ∷ [])
       ∷ (pos 0 ∷ pos 0 ∷ [])
@@ -113,5 +114,5 @@ pub record MarkedClocks : Type 0 where
       ∷ (pos 202211508 ∷ pos 433318732 ∷ [])
       ∷ (pos 1162373018 ∷ pos 1151408029 ∷ [])
       ∷ []
-  pub compiled-store : clockedStore compiled [] noise
+  pub compiled-store : clockedStore compiled (replicate 18 (pos 1)) noise
       ≡ pos 33826 ∷ negsuc 69001 ∷ pos 309519 ∷ negsuc 14711323 ∷ negsuc 32878271 ∷ pos 78069678 ∷ pos 21944340 ∷ negsuc 398657589 ∷ negsuc 922049 ∷ negsuc 51413 ∷ negsuc 51422279 ∷ negsuc 777390500 ∷ negsuc 6489889 ∷ negsuc 431542429 ∷ negsuc 802404526 ∷ negsuc 449 ∷ pos 6343700 ∷ negsuc 86138 ∷ []

@@ -22,7 +22,7 @@ use Rattle.clock_text.specs.declared.lists.Clocked.{Clocked}
 abbrev pub mostSamples : ℕ
 mostSamples = 32768
 
--- the registers lent, all 0: no compiled netlist has more, and one that has is refused with 6
+-- the registers lent, all 0; a netlist that had more would be refused with 6
 abbrev pub storeLength : ℕ
 storeLength = 131072
 

@@ -33,6 +33,25 @@ pub fn damage_head(random: &mut Random, netlist: &[u8]) -> Vec<u8> {
     all.swap_remove(random.between(0, all.len() - 1))
 }
 
+/// Damages a netlist, one time in five in its head alone; `other` is what may be spliced in.
+pub fn damage_netlist(random: &mut Random, netlist: &[u8], other: &[u8]) -> Vec<u8> {
+    match random.between(0, 4) {
+        0 => damage_head(random, netlist),
+        _ => damage(random, netlist, other),
+    }
+}
+
+/// Every byte set to every value, place by place.
+pub fn each_change_of_a_byte(bytes: &[u8]) -> impl Iterator<Item = Vec<u8>> + '_ {
+    (0..bytes.len()).flat_map(move |place| {
+        (0..=255).map(move |byte| {
+            let mut changed = bytes.to_vec();
+            changed[place] = byte;
+            changed
+        })
+    })
+}
+
 /// Damages bytes in one of several ways; `other` is what may be spliced in.
 pub fn damage(random: &mut Random, bytes: &[u8], other: &[u8]) -> Vec<u8> {
     let mut damaged = bytes.to_vec();

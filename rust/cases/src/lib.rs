@@ -8,7 +8,9 @@ mod netlists;
 mod random;
 mod runs;
 
-pub use damage::{damage, damage_head, damage_matrix, other_heads};
+pub use damage::{
+    damage, damage_head, damage_matrix, damage_netlist, each_change_of_a_byte, other_heads,
+};
 pub use lists::any_list;
 pub use market::{damaged_market_file, market_file, plain_market_file};
 pub use matrices::{any_bank, any_matrix, bank, filled, Matrix};

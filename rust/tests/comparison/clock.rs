@@ -2,8 +2,10 @@
 //! lengths. Besides what both sides give, the request's own sentence: a clock's outputs are run's for the vector of depth clocks
 //! before, or zero.
 
-use cases::{any_bank, any_list, any_matrix, any_netlist, bank, damage, damage_head};
-use cases::{deep_netlist, each, other_heads, waiting_netlist, Matrix, Met, Random};
+use cases::{
+    any_bank, any_list, any_matrix, any_netlist, bank, damage_netlist, deep_netlist, each,
+    each_change_of_a_byte, other_heads, waiting_netlist, Matrix, Met, Random,
+};
 
 use crate::both::{old_numbers, Both};
 use crate::netlists::{compiled, netlist, READ};
@@ -302,10 +304,7 @@ fn damaged_netlists() {
         let (matrix, other) = (any_bank(random, 4, 4), any_bank(random, 4, 4));
         let right = netlist(random, &matrix);
         let spliced = netlist(random, &other);
-        let damaged = match random.between(0, 4) {
-            0 => damage_head(random, &right),
-            _ => damage(random, &right, &spliced),
-        };
+        let damaged = damage_netlist(random, &right, &spliced);
         any_call(&mut both, random, &damaged);
     });
     both.assert_registers(&READ, 500);
@@ -334,12 +333,8 @@ fn every_byte_changed() {
     each(47_000_000, 2, |random| {
         let operations = random.between(1, 4);
         let right = deep_netlist(random, 16, 2, 2, operations);
-        for place in 0..right.len() {
-            for byte in 0..=255 {
-                let mut changed = right.clone();
-                changed[place] = byte;
-                any_call(&mut both, random, &changed);
-            }
+        for changed in each_change_of_a_byte(&right) {
+            any_call(&mut both, random, &changed);
         }
     });
     both.assert_registers(&[0, 7, 8, 9, 10, 11], 10);

@@ -1,7 +1,9 @@
 //! Read, sample_width, check and run on netlists: those of compile, others that are right, and damaged ones, for samples of all widths.
 
-use cases::{any_bank, any_matrix, any_netlist, damage, damage_head, each, other_heads};
-use cases::{plain_netlist, Matrix, Random};
+use cases::{
+    any_bank, any_matrix, any_netlist, damage, damage_netlist, each, each_change_of_a_byte,
+    other_heads, plain_netlist, Matrix, Random,
+};
 
 use crate::both::Both;
 
@@ -49,10 +51,7 @@ fn damaged_netlists() {
         let (matrix, other) = (any_bank(random, 4, 4), any_bank(random, 4, 4));
         let right = netlist(random, &matrix);
         let spliced = netlist(random, &other);
-        let damaged = match random.between(0, 4) {
-            0 => damage_head(random, &right),
-            _ => damage(random, &right, &spliced),
-        };
+        let damaged = damage_netlist(random, &right, &spliced);
         all_calls(&mut both, random, &matrix, &damaged);
         both.check(&other.record(), &damaged);
         let twice = damage(random, &damaged, &right);
@@ -198,12 +197,8 @@ fn every_byte_changed() {
     each(5_000_000, 12, |random| {
         let matrix = any_matrix(random, 2, 3);
         let right = netlist(random, &matrix);
-        for place in 0..right.len().min(200) {
-            for byte in 0..=255 {
-                let mut changed = right.clone();
-                changed[place] = byte;
-                all_calls(&mut both, random, &matrix, &changed);
-            }
+        for changed in each_change_of_a_byte(&right).take(200 * 256) {
+            all_calls(&mut both, random, &matrix, &changed);
         }
     });
     both.assert_read(&[0, 7, 8, 9, 10, 11], 500);

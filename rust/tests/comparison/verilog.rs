@@ -1,7 +1,8 @@
 //! Write Verilog: netlists of compile, others that are right, and damaged ones, for samples of all widths; buffers of all lengths.
 
 use cases::{
-    any_bank, any_matrix, any_netlist, bank, damage, damage_head, each, other_heads, Random,
+    any_bank, any_matrix, any_netlist, bank, damage_netlist, each, each_change_of_a_byte,
+    other_heads, Random,
 };
 
 use crate::both::{old_bytes, Both};
@@ -121,10 +122,7 @@ fn damaged_netlists() {
         let (matrix, other) = (any_bank(random, 4, 4), any_bank(random, 4, 4));
         let right = netlist(random, &matrix);
         let spliced = netlist(random, &other);
-        let damaged = match random.between(0, 4) {
-            0 => damage_head(random, &right),
-            _ => damage(random, &right, &spliced),
-        };
+        let damaged = damage_netlist(random, &right, &spliced);
         write(&mut both, random, &damaged);
         write_short(&mut both, random, &damaged);
     });
@@ -153,12 +151,8 @@ fn every_byte_changed() {
     each(34_000_000, 6, |random| {
         let matrix = any_matrix(random, 2, 3);
         let right = netlist(random, &matrix);
-        for place in 0..right.len().min(200) {
-            for byte in 0..=255 {
-                let mut changed = right.clone();
-                changed[place] = byte;
-                write(&mut both, random, &changed);
-            }
+        for changed in each_change_of_a_byte(&right).take(200 * 256) {
+            write(&mut both, random, &changed);
         }
     });
     both.assert_verilog(&[0, 7, 8, 9, 10, 11], 100);
