@@ -1,4 +1,6 @@
 // The bits of a number, as definitions and laws, and the test of one bit. Rests on nothing.
+#![tactic(auto)]
+
 ghost use Rattle.std.specs.Prelude.{◌≡◌, ◌<◌};
 ghost use Rattle.bits.specs.Bits.{bit_at};
 

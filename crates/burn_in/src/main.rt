@@ -1,5 +1,6 @@
 // Generates 1,000 banks of 8 by 8, compiles each, checks the netlist against its matrix and prints a line for each. With nothing on
 // standard input the seeds are 0 to 999; with anything there they are spread ones.
+#![tactic(auto)]
 use libc::{STDIN_FILENO, STDOUT_FILENO};
 
 fn main() {

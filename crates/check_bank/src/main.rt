@@ -4,6 +4,7 @@
 // A record has at most 65,535 bytes, so a longer one is refused with 2 whatever follows, and counts as one of 65,536.
 // A netlist's last record starts within 6,137 bytes and has at most 65,535, so of a longer netlist the first 131,072 bytes have the same
 // answer.
+#![tactic(auto)]
 ghost use Rattle.std.specs.Prelude.{◌≡◌, ◌≤◌, length};
 
 use layout_records::little_endian::word_at;

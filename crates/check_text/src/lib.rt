@@ -1,5 +1,6 @@
 // Document 01, "Programs": the text of check-bank for a matrix record and a netlist, `accepted` or the line of the refusal. Rests on
 // `netlist_check` and `text`.
+#![tactic(auto)]
 ghost use Rattle.std.specs.Prelude.{◌≤◌, length};
 ghost use Rattle.text.specs.Text.{longest_refused_line};
 ghost use Rattle.text.specs.Wrote.{Wrote, PrefixLength};
@@ -16,7 +17,7 @@ fn write_text(matrix: &[u8], netlist: &[u8], text: &mut [u8]) -> usize
     if answer.refusal != 0 {
         return text::write_refused(answer.refusal, answer.place, text);
     }
-    bytes::copy(b"accepted\n", text)
+    byte_slices::copy(b"accepted\n", text)
 }
 
 // Writes the text at the start of the lent bytes and answers how long it is; nothing where they are too few.

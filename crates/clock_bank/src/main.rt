@@ -3,6 +3,7 @@
 // netlist, then the samples (4 bytes each, little-endian two's complement).
 // Where the input ends early, a missing byte of the length counts as 0, the netlist is what there is of it, and the samples likewise.
 // Of samples that are longer than MOST_BYTES the first so many bytes are taken; the script clock-bank takes no such input.
+#![tactic(auto)]
 ghost use Rattle.std.specs.Prelude.{◌≡◌, ◌*◌, length};
 ghost use Rattle.limits.specs.Limits.{max_rows};
 ghost use Rattle.clock_text.specs.ListBytes.{most_samples};

@@ -1,5 +1,6 @@
 // Document 01, "Programs": the text of clock-bank, a line of outputs a clock, each in decimal, one blank between two. Rests on `run_text` for
 // a number with its sign, on `text` and on `bytes`.
+#![tactic(auto)]
 pub mod lists; // lists.rt: clock, with the samples given as bytes
 
 ghost use Rattle.std.specs.Prelude.{◌≡◌, ◌+◌, ◌*◌, ◌≤◌, length};
@@ -24,9 +25,9 @@ fn write_separated(value: i64, more: bool, text: &mut [u8]) -> usize
 {
     let at = write_signed(value, text);
     if more {
-        return at + bytes::copy(b" ", &mut text[at..]);
+        return at + byte_slices::copy(b" ", &mut text[at..]);
     }
-    at + bytes::copy(b"\n", &mut text[at..])
+    at + byte_slices::copy(b"\n", &mut text[at..])
 }
 
 // The outputs in their order.

@@ -1,6 +1,7 @@
 // Reads a sample width (1 byte) and a matrix record on standard input and writes its netlist's bytes, or the line of its refusal. Where
 // the input ends early, the sample width counts as 0. A record has at most 65,535 bytes, so of a longer one the first 65,536 bytes have
 // the same answer. A netlist's first byte is its head's length, and never that of `refused`.
+#![tactic(auto)]
 use libc::{STDIN_FILENO, STDOUT_FILENO};
 
 fn main() {

@@ -1,5 +1,6 @@
 // Document 01, "Netlist and board machine": the netlist of a matrix and what compile answers. Rests on `limits`,
 // `elimination_rules`, `layout_rules`, `board_rules` and `sum_rules`; the laws of the netlist stand in proofs/.
+#![tactic(auto)]
 ghost use Rattle.std.specs.Prelude.{◌≡◌};
 ghost use Rattle.compile_rules.specs.Compile.{compile_refused};
 

@@ -1,4 +1,6 @@
 // Document 01, "Digits and terms": the canonic signed digits of a coefficient, lowest position first. Rests on `limits` and `integers`.
+#![tactic(auto)]
+
 ghost use Rattle.std.specs.Prelude.{◌≡◌};
 ghost use Rattle.limits.specs.Limits.{positions};
 ghost use Rattle.digits.specs.Digits.{digit, rest, digits};

@@ -1,3 +1,4 @@
 // Document 01, "Digits and terms" and "Elimination": the rows, by value. Rests on `limits`, `term`, `digits` and `elimination_lookup`.
+#![tactic(auto)]
 pub mod row; // row.rt: a row of terms
 pub mod rows; // rows.rt: all rows

@@ -1,5 +1,6 @@
 // Writes the matrix record that a seed gives, or the refusal. Standard input has m, n (1 byte each) and the seed (4 bytes, little-endian);
 // where it ends early, a missing byte counts as 0, and what follows is not read.
+#![tactic(auto)]
 use libc::{STDIN_FILENO, STDOUT_FILENO};
 
 fn main() {

@@ -1,5 +1,7 @@
 // Laws of the whole numbers and of the signed machine integers that hold them: they stand in proofs/. Besides, what the code of several
 // crates works out of two numbers. Rests on nothing.
+#![tactic(auto)]
+
 ghost use Rattle.std.specs.Prelude.{◌≡◌, ◌<◌, ◌^◌, max, pos, ◌*ℤ◌};
 ghost use Rattle.std.specs.Int.{w64};
 ghost use Rattle.std.proofs.Common.{SFits};

@@ -1,5 +1,6 @@
 // Document 01, "Netlist and board machine": the head of a netlist, read and written; which of the two heads is due. Rests on
 // `layout_records`.
+#![tactic(auto)]
 ghost use Rattle.std.specs.Prelude.{◌≡◌, ◌++◌, ◌≤◌, length, drop};
 ghost use Rattle.layout_rules.specs.Records.{head_kind_of, head_length_of, head_bytes};
 ghost use Rattle.layout_rules.specs.Places.{head_kind_in, head_length_in, head_at};
@@ -99,5 +100,5 @@ pub fn write_head(buffer: &mut [u8], head: Head)
         (head.operations / 256) as u8,
         head.width,
     ];
-    bytes::copy(&record[..size], buffer);
+    byte_slices::copy(&record[..size], buffer);
 }

@@ -1,4 +1,5 @@
 // Document 01, "Matrix record" and "Why a record was declined": the matrix record, and no bytes, as `layout_rules` has them.
+#![tactic(auto)]
 ghost use Rattle.std.specs.Prelude.{◌≡◌, ◌++◌, ◌+◌, ◌^◌, ◌≤◌, ◌<◌, length, drop, get_or};
 ghost use Rattle.limits.specs.Size.{SizeLimits};
 ghost use Rattle.layout_rules.specs.Matrix.{rows, columns, matrix_refusal, coefficient_at, coefficient_place, signed_word};
@@ -98,5 +99,5 @@ pub fn write_matrix_head(m: u8, n: u8, buffer: &mut [u8])
 {
     let size = coefficient_place((m as usize) * (n as usize));
     let head = [size as u8, 0, MATRIX_KIND as u8, 0, m, n];
-    bytes::copy(&head, buffer);
+    byte_slices::copy(&head, buffer);
 }

@@ -26,7 +26,7 @@ pub fn write_operation(buf: &mut [u8], operation: Operation)
         operation.sb,
         operation.width,
     ];
-    bytes::copy(&record, buf);
+    byte_slices::copy(&record, buf);
 }
 
 pub fn write_output(buf: &mut [u8], output: Output)
@@ -44,7 +44,7 @@ pub fn write_output(buf: &mut [u8], output: Output)
         output.shift,
         output.width,
     ];
-    bytes::copy(&record, buf);
+    byte_slices::copy(&record, buf);
 }
 
 pub fn write_totals(buf: &mut [u8], totals: Totals)
@@ -61,5 +61,5 @@ pub fn write_totals(buf: &mut [u8], totals: Totals)
         (totals.depth % 256) as u8,
         (totals.depth / 256) as u8,
     ];
-    bytes::copy(&record, buf);
+    byte_slices::copy(&record, buf);
 }

@@ -1,5 +1,6 @@
 // Document 01, "Matrix record" and "Netlist and board machine": the records of a netlist as data, and what the step hands back. Their bytes
 // and places are defined in specs/, the laws stand in proofs/. Rests on `limits` and `integers`.
+#![tactic(auto)]
 
 // Kind 2, or 6: m rows, n columns, the number of operations, the sample width.
 #[derive(Drop)]

@@ -1,6 +1,8 @@
 // Document 01's limits as constants of the code, each once: those that it states, then those that are worked out from them. Rests on
 // nothing. specs/Limits.antt has the same numbers under the names that contracts cite; specs/Size.antt says which m, n and sample
 // widths are within.
+#![tactic(auto)]
+
 ghost use Rattle.std.specs.Prelude.{◌≡◌};
 ghost use Rattle.limits.specs.Size.{size_outside, sample_width_outside};
 

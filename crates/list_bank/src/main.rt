@@ -1,5 +1,6 @@
 // Reads a sample width (1 byte) and a matrix record on standard input and prints its netlist, or its refusal. Where the input ends
 // early, the sample width counts as 0. A record has at most 65,535 bytes, so of a longer one the first 65,536 bytes have the same answer.
+#![tactic(auto)]
 use libc::{STDIN_FILENO, STDOUT_FILENO};
 
 fn main() {

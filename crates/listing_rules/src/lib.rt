@@ -1,4 +1,5 @@
 // Document 01, "Programs": the text that the program list-bank prints, as specs/ defines it. Rests on `text` and `layout_rules`.
+#![tactic(auto)]
 
 // Bytes that hold the first line, an operation's and an output's.
 pub const LONGEST_COUNTS_LINE: usize = 102;

@@ -10,7 +10,7 @@ use lib.Dec.{eqb}
 use lib.ListN.{length, get_or, drop, length-drop, drop_of_length-le}
 use lib.Seq.{drop-cons, take-length}
 use borrow.Author.Tests.{ne_eqb, eq-eqb}
-use Rattle.bytes.specs.Bytes.{index_of, index_after, slice}
+use Rattle.byte_slices.specs.Search.{index_of, index_after, slice}
 use Rattle.text.specs.Decimal.{value_behind, decimal_value}
 use Rattle.market_rules.specs.Lines.{line_feed, before_lines, lines, line}
 use Rattle.market_rules.specs.Forms.{same, is_digit, leading_digits}

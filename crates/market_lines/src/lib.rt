@@ -1,4 +1,5 @@
 // Document 01, "Matrix Market files": the lines of a lent text, comments, and the digits of a number, as `market_rules` has them.
+#![tactic(auto)]
 ghost use Rattle.std.specs.Prelude.{◌≡◌, ◌+◌, ◌≤◌, min, length, drop};
 ghost use Rattle.text.specs.Decimal.{decimal_value};
 ghost use Rattle.market_rules.specs.Lines.{line};
@@ -14,7 +15,7 @@ pub fn line_end(text: &[u8], place: usize) -> usize
     ensures value { result ≡ place + length (line (drop place text.now) 0) }
     ensures lower_bound { (place ≤ result) × (result ≤ length text.now) }
 {
-    let found = bytes::scan::find(text, place, text.len(), LINE_FEED);
+    let found = byte_slices::find(text, place, text.len(), LINE_FEED);
     if found < text.len() {
         return found + 1;
     }

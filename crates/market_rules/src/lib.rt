@@ -1,6 +1,7 @@
 // Document 01, "Matrix Market files": what read_matrix_market answers. The definitions stand in specs/: lines, their forms, the record of a
 // file, the tests in their order, and which texts are a file of which matrix; the laws stand in proofs/. Rests on `layout_rules` and
 // `text`, and for its laws on `bank_rules`.
+#![tactic(auto)]
 ghost use Rattle.std.specs.Prelude.{◌≡◌};
 ghost use Rattle.market_rules.specs.Market.{market_refused};
 

@@ -1,6 +1,7 @@
 // Reads a Matrix Market file on standard input and writes its matrix record, or the line of its refusal. Of a file longer than MOST_BYTES
 // the first so many bytes are taken; the script matrix-market takes no such file. The third byte of a record is that of its kind, and of
 // a refusal a letter.
+#![tactic(auto)]
 ghost use Rattle.std.specs.Prelude.{◌≡◌, length};
 
 use libc::{STDIN_FILENO, STDOUT_FILENO};

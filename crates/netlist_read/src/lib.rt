@@ -1,6 +1,7 @@
 // Document 01, "Reading, checking, running" and "Why a record was declined": reading a netlist, refusals 7 to 12 record by record, as
 // `netlist_rules` has it. Rests on `netlist_tests`, `layout_head`, `board_width` and `board_tables`, and sees nothing of the
 // elimination.
+#![tactic(auto)]
 ghost use Rattle.std.specs.Prelude.{◌≡◌, ◌≤◌, ◌<◌, length, take};
 ghost use Rattle.limits.specs.Limits.{max_rows, max_columns, max_operations, max_symbols};
 ghost use Rattle.limits.specs.Size.{SampleWidth};

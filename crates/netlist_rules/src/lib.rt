@@ -1,5 +1,6 @@
 // Document 01, "Reading, checking, running": what read, sample_width, check and run answer. Rests on `limits`,
 // `layout_rules` and `board_rules` alone, and sees nothing of the elimination; the theorems about these answers stand in proofs/.
+#![tactic(auto)]
 ghost use Rattle.std.specs.Prelude.{◌≡◌};
 ghost use Rattle.netlist_rules.specs.Read.{read_refused};
 

@@ -2,6 +2,7 @@
 // netlist's length (2 bytes, little-endian), the netlist, then the samples (4 bytes each, little-endian two's complement).
 // Where the input ends early, a missing byte of the length counts as 0, the netlist is what there is of it, and the samples likewise.
 // No netlist takes more samples than MAX_COLUMNS, so of longer input the bytes of one sample more have the same answer.
+#![tactic(auto)]
 use layout_records::little_endian::word_at;
 use libc::{STDIN_FILENO, STDOUT_FILENO};
 use limits::MAX_COLUMNS;

@@ -1,5 +1,6 @@
 // Document 01, "Programs": the text of run-bank for a netlist and the bytes of samples, one output a line, in decimal. Rests on `limits`,
 // `netlist_run` and `text`, and on `board_width` for a number's positive and negative part.
+#![tactic(auto)]
 pub mod samples; // samples.rt: run, with the samples given as bytes
 
 ghost use Rattle.std.specs.Prelude.{◌≡◌, ◌*◌, ◌-◌, ◌≤◌, pos, length, replicate};
@@ -22,7 +23,7 @@ pub fn write_signed(value: i64, text: &mut [u8]) -> usize
     ensures upper_bound { result ≤ longest_line - 1 }
 {
     if value < 0 {
-        let at = bytes::copy(b"-", text);
+        let at = byte_slices::copy(b"-", text);
         return at + text::write_number(board_width::negative_part(value) as usize, &mut text[at..]);
     }
     text::write_number(board_width::positive_part(value) as usize, text)
@@ -35,7 +36,7 @@ fn write_output(value: i64, text: &mut [u8]) -> usize
     ensures upper_bound { result ≤ longest_line }
 {
     let at = write_signed(value, text);
-    at + bytes::copy(b"\n", &mut text[at..])
+    at + byte_slices::copy(b"\n", &mut text[at..])
 }
 
 // The outputs in their order, one a line.

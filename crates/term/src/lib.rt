@@ -1,5 +1,7 @@
 // Document 01, "Digits and terms": a term has a symbol, an exponent (its left shift) and a sign. Rests on `limits`.
 // The fields are private, so that nothing makes a term but the two constructors, and every term is within its limits.
+#![tactic(auto)]
+
 ghost use Rattle.std.specs.Prelude.{◌≡◌, ◌≤◌};
 
 use limits::{MAX_SYMBOLS, POSITIONS, TERM_SYMBOLS};
@@ -21,7 +23,8 @@ impl Term {
     pub const MAX_JOINED_SYMBOL: u16 = (MAX_SYMBOLS - 1) as u16;
 
     pub fn new(symbol: u16, exponent: u8, negative: bool) -> Term
-        requires* { do ⌜ (symbol ≤ (← ⟦Term::MAX_SYMBOL⟧)) × (exponent ≤ (← ⟦Term::MAX_EXPONENT⟧)) ⌝ }
+        requires symbol_within { symbol ≤ Term.MAX_SYMBOL }
+        requires exponent_within { exponent ≤ Term.MAX_EXPONENT }
         ensures { result ≡ record { symbol = symbol; exponent = exponent; negative = negative } }
     {
         Term {
@@ -33,7 +36,7 @@ impl Term {
 
     // The term that two terms are joined to: its exponent is 0.
     pub fn joined(symbol: u16, negative: bool) -> Term
-        requires* { do ⌜ symbol ≤ (← ⟦Term::MAX_JOINED_SYMBOL⟧) ⌝ }
+        requires { symbol ≤ Term.MAX_JOINED_SYMBOL }
         ensures { result ≡ record { symbol = symbol; exponent = 0; negative = negative } }
     {
         Term {

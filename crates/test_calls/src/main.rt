@@ -1,6 +1,7 @@
 // Runs compile, read, check, sample_width and run on stored cases. Standard input is a list of cases: which call (1 byte: 0 compile,
 // 1 read, check and sample_width, 2 run), two numbers (2 bytes each, little-endian), and the bytes that belong to them, as the call's
 // file says. What is printed is compared with the output of a second implementation.
+#![tactic(auto)]
 mod compile_case; // compile_case.rt: a case of compile
 mod check_case; // check_case.rt: a case of read, check and sample_width
 mod run_case; // run_case.rt: a case of run

@@ -1,6 +1,7 @@
 // Goes through elimination state by state on stored matrices. Standard input is a list of matrix records, one behind the other. For each
 // matrix a line for each state is printed, from the matrix's rows to the remaining rows, and then an empty line. What is printed is
 // compared with the output of a second implementation, which keeps no scores from one state to the next.
+#![tactic(auto)]
 mod state; // state.rt: the line of a state
 
 ghost use Rattle.std.specs.Prelude.{◌≡◌, ◌≤◌, length};

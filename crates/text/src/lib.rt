@@ -1,5 +1,6 @@
 // Numbers and labels as text, and the line of a refusal. Each writer is lent the part of the text that starts at the current place,
 // returns the number of bytes it wrote, and leaves what stands behind them as it was.
+#![tactic(auto)]
 ghost use Rattle.std.specs.Prelude.{◌++◌, ◌+◌, ◌≤◌, length};
 ghost use Rattle.text.specs.Decimal.{number};
 ghost use Rattle.text.specs.Text.{ascii, refused_line, longest_refused_line};
@@ -20,7 +21,7 @@ pub fn write_number(value: usize, text: &mut [u8]) -> usize
         rest /= 10;
     }
     digits[start] = 48 + rest as u8;
-    bytes::copy(&digits[start..], text)
+    byte_slices::copy(&digits[start..], text)
 }
 
 // A label and the number behind it, at most 5 digits.
@@ -29,7 +30,7 @@ pub fn write_labelled(label: &[u8], value: u16, text: &mut [u8]) -> usize
     ensures wrote { Wrote text.old text.new result (label.now ++ number value) }
     ensures upper_bound { result ≤ length label.now + 5 }
 {
-    let at = bytes::copy(label, text);
+    let at = byte_slices::copy(label, text);
     at + write_number(value as usize, &mut text[at..])
 }
 
@@ -50,7 +51,7 @@ pub fn write_last(label: &[u8], value: u16, text: &mut [u8]) -> usize
     ensures upper_bound { result ≤ length label.now + 6 }
 {
     let at = write_labelled(label, value, text);
-    at + bytes::copy(b"\n", &mut text[at..])
+    at + byte_slices::copy(b"\n", &mut text[at..])
 }
 
 // A number of at most 20 digits between two labels.
@@ -59,9 +60,9 @@ pub fn write_between(label: &[u8], value: usize, other: &[u8], text: &mut [u8]) 
     ensures wrote { Wrote text.old text.new result (label.now ++ number value ++ other.now) }
     ensures upper_bound { result ≤ length label.now + length other.now + 20 }
 {
-    let at = bytes::copy(label, text);
+    let at = byte_slices::copy(label, text);
     let end = at + write_number(value, &mut text[at..]);
-    end + bytes::copy(other, &mut text[end..])
+    end + byte_slices::copy(other, &mut text[end..])
 }
 
 // Bytes that hold the line of a refusal: a number of 5 digits and a place of 20.

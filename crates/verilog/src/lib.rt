@@ -1,6 +1,7 @@
 // Document 01, "Verilog": write_verilog, the text of a netlist's module, as `verilog_rules` has it. Rests on `netlist_read` and
 // `verilog_lines`, and sees nothing of the elimination. The text is written to a buffer of its own and then copied, since refusal 6 is
 // known only once it is there.
+#![tactic(auto)]
 ghost use Rattle.std.specs.Prelude.{◌≡◌, map, ◌+◌, ◌*◌, ◌<◌, ◌≤◌, length, replicate};
 ghost use Rattle.limits.specs.Limits.{max_rows, max_columns, max_operations};
 ghost use Rattle.layout_rules.specs.Places.{head_length_in, head_at, operations_in, outputs_in, netlist_in};
@@ -68,9 +69,9 @@ fn write_first(ports: u16, text: &mut [u8]) -> usize
     ensures upper_bound { result ≤ 14 }
 {
     if ports == 0 {
-        return bytes::copy(b"module bank (", text);
+        return byte_slices::copy(b"module bank (", text);
     }
-    bytes::copy(b"module bank (\n", text)
+    byte_slices::copy(b"module bank (\n", text)
 }
 
 // ---- lines of one kind
@@ -165,7 +166,7 @@ fn write_ports(netlist: &[u8], head: Head, start: usize, text: &mut [u8]) -> usi
     let outputs = inputs + write_inputs(n + m, n, head.width, &mut text[inputs..]);
     let k = head.operations;
     let close = outputs + write_outputs(false, netlist, start, n, k, m, &mut text[outputs..]);
-    close + bytes::copy(b");\n", &mut text[close..])
+    close + byte_slices::copy(b");\n", &mut text[close..])
 }
 
 // Its wires and all assignments.
@@ -194,7 +195,7 @@ fn write_module(netlist: &[u8], text: &mut [u8]) -> usize
     let start = due_length(netlist);
     let wires = write_ports(netlist, head, start, text);
     let end = wires + write_assignments(netlist, head, start, &mut text[wires..]);
-    end + bytes::copy(b"endmodule\n", &mut text[end..])
+    end + byte_slices::copy(b"endmodule\n", &mut text[end..])
 }
 
 // Bytes that hold every text as its writers ask for them.
@@ -233,7 +234,7 @@ pub fn write_verilog(netlist: &[u8], buffer: &mut [u8]) -> VerilogAnswer
             written: 0,
         };
     }
-    bytes::copy(&text[..written], buffer);
+    byte_slices::copy(&text[..written], buffer);
     VerilogAnswer {
         refusal: 0,
         place: 0,

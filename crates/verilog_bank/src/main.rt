@@ -1,6 +1,7 @@
 // Reads a netlist on standard input and writes the text of its module, or the line of its refusal. A netlist's last record starts within
 // 6,137 bytes and has at most 65,535, so of longer input the first 131,072 bytes have the same answer. A text begins with `module`, and
 // never with `refused`.
+#![tactic(auto)]
 ghost use Rattle.std.specs.Prelude.{◌≡◌, length};
 
 use libc::{STDIN_FILENO, STDOUT_FILENO};

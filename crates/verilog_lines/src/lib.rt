@@ -1,5 +1,6 @@
 // Document 01, "Verilog": the lines of a module, as `verilog_rules` has them. Each writer is lent the part of the text that starts at the
 // current place, as those of `text` are.
+#![tactic(auto)]
 ghost use Rattle.std.specs.Prelude.{cond, ◌++◌, ◌≡◌, ◌+◌, ◌<◌, ◌≤◌, pred, eqb, length};
 ghost use Rattle.text.specs.Decimal.{number};
 ghost use Rattle.text.specs.Text.{ascii};
@@ -35,9 +36,9 @@ fn write_port_end(ports: u16, port: u16, text: &mut [u8]) -> usize
     ensures upper_bound { result ≤ 2 }
 {
     if port == ports {
-        return bytes::copy(b"\n", text);
+        return byte_slices::copy(b"\n", text);
     }
-    bytes::copy(b",\n", text)
+    byte_slices::copy(b",\n", text)
 }
 
 // The line of a column's input.
@@ -72,7 +73,7 @@ pub fn write_wire(symbol: u16, operation: Operation, text: &mut [u8]) -> usize
 {
     let top = top_bit(operation.width);
     let at = write_pair(b"  wire signed [", top, b":0] s", symbol, text);
-    at + bytes::copy(b";\n", &mut text[at..])
+    at + byte_slices::copy(b";\n", &mut text[at..])
 }
 
 // An operand up to its shift, without the bracket that closes it.
@@ -94,7 +95,7 @@ fn write_operand(inputs: u16, symbol: u16, shift: u8, text: &mut [u8]) -> usize
     ensures upper_bound { result ≤ 18 }
 {
     let at = write_unclosed_operand(inputs, symbol, shift, text);
-    at + bytes::copy(b")", &mut text[at..])
+    at + byte_slices::copy(b")", &mut text[at..])
 }
 
 // The sign between an operation's operands.
@@ -104,9 +105,9 @@ fn write_sign(sign: u8, text: &mut [u8]) -> usize
     ensures upper_bound { result ≤ 3 }
 {
     if sign == 0 {
-        return bytes::copy(b" + ", text);
+        return byte_slices::copy(b" + ", text);
     }
-    bytes::copy(b" - ", text)
+    byte_slices::copy(b" - ", text)
 }
 
 // What is assigned to the wire of an operation.
@@ -132,9 +133,9 @@ pub fn write_wire_assignment(
     ensures upper_bound { result ≤ longest_wire_assignment }
 {
     let equals = write_labelled(b"  assign s", symbol, text);
-    let value = equals + bytes::copy(b" = ", &mut text[equals..]);
+    let value = equals + byte_slices::copy(b" = ", &mut text[equals..]);
     let end = value + write_operation_expression(inputs, operation, &mut text[value..]);
-    end + bytes::copy(b";\n", &mut text[end..])
+    end + byte_slices::copy(b";\n", &mut text[end..])
 }
 
 // What is assigned to an output: plus, minus, or the constant zero.
@@ -147,10 +148,10 @@ fn write_output_expression(inputs: u16, output: Output, text: &mut [u8]) -> usiz
         return write_operand(inputs, output.symbol, output.shift, text);
     }
     if output.sign == 1 {
-        let at = bytes::copy(b"-", text);
+        let at = byte_slices::copy(b"-", text);
         return at + write_operand(inputs, output.symbol, output.shift, &mut text[at..]);
     }
-    bytes::copy(b"1'sb0", text)
+    byte_slices::copy(b"1'sb0", text)
 }
 
 // The assignment to a row's output.
@@ -160,7 +161,7 @@ pub fn write_output_assignment(inputs: u16, row: u16, output: Output, text: &mut
     ensures upper_bound { result ≤ longest_output_assignment }
 {
     let equals = write_labelled(b"  assign y", row, text);
-    let value = equals + bytes::copy(b" = ", &mut text[equals..]);
+    let value = equals + byte_slices::copy(b" = ", &mut text[equals..]);
     let end = value + write_output_expression(inputs, output, &mut text[value..]);
-    end + bytes::copy(b";\n", &mut text[end..])
+    end + byte_slices::copy(b";\n", &mut text[end..])
 }

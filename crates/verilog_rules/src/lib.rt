@@ -1,6 +1,7 @@
 // Document 01, "Verilog": the module of a netlist as data, its text, what its assignments mean, and what write_verilog answers. Rests on
 // `layout_rules`, `board_rules`, `netlist_rules` and `text`; the theorem that the module computes what the board machine computes stands
 // in proofs/.
+#![tactic(auto)]
 use limits::{MAX_COLUMNS, MAX_OPERATIONS, MAX_ROWS};
 
 // "37,987 bytes always suffice."

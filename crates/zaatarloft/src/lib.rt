@@ -2,6 +2,7 @@
 // `netlist_check`, `netlist_run`, `layout_step`, `generator`, `market`, `verilog`, `clock_delays` and `clock`.
 // Each function returns the refusal's number, 0 where it accepts, and writes the other numbers of the answer through the references.
 // The names say raw: include/zaatarloft.h and rust/src/lib.rs have calls over them that give an answer as one struct.
+#![tactic(auto)]
 ghost use Rattle.std.specs.Prelude.{◌≡◌, length};
 ghost use Rattle.compile_rules.specs.Compile.{compile_answer, compile_buffer};
 ghost use Rattle.netlist_rules.specs.Read.{read_answer, sample_width_answer};

@@ -8,26 +8,19 @@ use Rattle.integers.proofs.Held.{held, held_nat, held_shr, held-+, need-+, retur
 use Rattle.digits.specs.Digits.{mod_four, carry_of, rest}
 use Rattle.digits.proofs.Lowest.{mod_four-below}
 use Rattle.digits.proofs.Bits.{masked, carry_otherwise, carried_fits}
-use Rattle.digits.proofs.rest_of.Statement.{statement}
-use Rattle.digits.proofs.rest_of.Tie as tie
+use Rattle.digits.proofs.rest_of.Goals as goal
 
-add-result : tie.Need-overflow-add-result
-add-result c = let s = c.before in need-+ (held_shr 2 (held s.ranges.z)) (held_nat w32 1 (omega arith)) (carried_fits s.args.z s.ranges.z)
-
-returns : tie.Need-returns
+pub returns-then-remainder-eq3 : goal.returns-then-remainder-eq3
 unfolding rest
-returns c =
+returns-then-remainder-eq3 c =
     let s = c.before in
     returned (held-+ (held_shr 2 (held s.ranges.z)) (held_nat w32 1 (omega arith)) (carried_fits s.args.z s.ranges.z))
-    (ap (λ r. shr_z s.args.z 2 +ℤ carry_of r) (sym c.if1.true ∙ masked s.args.z s.ranges.z))
+    (ap (λ r. shr_z s.args.z 2 +ℤ carry_of r) (sym c.if-remainder-eq3.true ∙ masked s.args.z s.ranges.z))
 
-returns-2 : tie.Need-returns-2
+pub returns-else-remainder-eq3 : goal.returns-else-remainder-eq3
 unfolding rest
-returns-2 c =
+returns-else-remainder-eq3 c =
     let s = c.before in
     returned (held_shr 2 (held s.ranges.z))
     (sym (+ℤ_idr _) ∙ ap (λ carry. shr_z s.args.z 2 +ℤ carry)
-    (carry_otherwise (mod_four s.args.z) (mod_four-below s.args.z) (λ e. c.if1.false (masked s.args.z s.ranges.z ∙ e))))
-
-pub rest-of-spec : {M : Type 1} → statement M
-rest-of-spec = tie.close (tie.spec add-result returns returns-2)
+    (carry_otherwise (mod_four s.args.z) (mod_four-below s.args.z) (λ e. c.if-remainder-eq3.false (masked s.args.z s.ranges.z ∙ e))))
