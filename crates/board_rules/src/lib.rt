@@ -3,6 +3,7 @@
 // A table that is lent has the coefficients of a symbol in a row of its own, at symbol * MAX_COLUMNS + column, or a value or a depth by
 // symbol.
 #![tactic(auto)]
+
 ghost use Rattle.std.specs.Prelude.{◌*◌};
 
 use limits::{MAX_COLUMNS, MAX_SYMBOLS};

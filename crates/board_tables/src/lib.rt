@@ -1,6 +1,7 @@
 // Document 01, "Netlist and board machine": what an operation and an output make of earlier entries, and the tables of coefficients,
 // values and depths that are lent, as `board_rules` has them.
 #![tactic(auto)]
+
 ghost use Rattle.std.specs.Prelude.{◌≡◌, ◌+◌, ◌*◌, ◌-◌, ◌≤◌, ◌<◌, pos, get_or};
 ghost use Rattle.std.proofs.lemmas.List.Edits.{sets};
 ghost use Rattle.limits.specs.Limits.{max_columns, max_symbols};

@@ -1,6 +1,7 @@
 // Document 01, "Netlist and board machine": the width of an entry and of an output, from a lent table of coefficients, as `board_rules`
 // has it.
 #![tactic(auto)]
+
 ghost use Rattle.std.specs.Prelude.{◌≡◌, ◌+◌, ◌*◌, ◌-◌, ◌^◌, ◌≤◌, ◌<◌, max, pred};
 ghost use Rattle.limits.specs.Limits.{max_columns, max_symbols};
 ghost use Rattle.board_rules.specs.Width.{positive_part, negative_part, positives, negatives, bits, width_of, width};
@@ -63,7 +64,7 @@ fn width_of(s: u8, p: u64, q: u64) -> u8
     bit_count(end) + 1
 }
 
-#[derive(Drop)]
+#[derive(Clone, Copy)]
 struct Sums {
     positives: u64,
     negatives: u64,

@@ -3,7 +3,7 @@
 #![tactic(auto)]
 
 // What registers returns: a refusal and its place, or the total of the registers.
-#[derive(Drop)]
+#[derive(Clone, Copy)]
 pub struct RegistersAnswer {
     pub refusal: u8,
     pub place: usize,

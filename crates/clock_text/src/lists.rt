@@ -19,7 +19,7 @@ pub const MOST_OUTPUTS: usize = MAX_ROWS * MOST_SAMPLES;
 const STORE_LENGTH: usize = 131072;
 
 // What clock_bytes returns: a refusal and its place, the m that read says, and how many clocks there are, one for each vector.
-#[derive(Drop)]
+#[derive(Clone, Copy)]
 pub struct Clocked {
     pub refusal: u8,
     pub place: usize,

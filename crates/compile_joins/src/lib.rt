@@ -34,7 +34,7 @@ pub fn divisor_operation(d: Divisor) -> Operation
 }
 
 // Two terms that are joined, in the order of their operands.
-#[derive(Drop)]
+#[derive(Clone, Copy)]
 pub struct Operands {
     pub first: Term,
     pub second: Term,

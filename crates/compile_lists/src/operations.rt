@@ -8,7 +8,7 @@ use layout_rules::Operation;
 use limits::MAX_OPERATIONS;
 
 // "operations (2 bytes, at most 504)".
-#[derive(Drop)]
+#[derive(Clone, Copy)]
 pub struct Operations {
     list: [Operation; MAX_OPERATIONS],
     count: usize,

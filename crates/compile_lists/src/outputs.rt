@@ -8,7 +8,7 @@ use layout_rules::Output;
 use limits::MAX_ROWS;
 
 // As many as rows at the most.
-#[derive(Drop)]
+#[derive(Clone, Copy)]
 pub struct Outputs {
     list: [Output; MAX_ROWS],
     count: usize,

@@ -20,7 +20,7 @@ use limits::{MAX_PAIRS, MAX_SYMBOLS};
 
 // One operation per divisor, the depths of the inputs and of these, the number of pairs replaced, the remaining rows, and how many entries
 // their table of scores has.
-#[derive(Drop)]
+#[derive(Clone, Copy)]
 pub struct Eliminated {
     pub operations: Operations,
     pub depths: [u16; MAX_SYMBOLS],

@@ -11,7 +11,7 @@ ghost use Rattle.compile_plan.specs.Planned.{PlannedOf};
 use compile_lists::operations::Operations;
 use compile_lists::outputs::Outputs;
 
-#[derive(Drop)]
+#[derive(Clone, Copy)]
 pub struct Planned {
     pub operations: Operations,
     pub outputs: Outputs,

@@ -1,11 +1,12 @@
 // Document 01, "Netlist and board machine": the netlist of a matrix and what compile answers. Rests on `limits`,
 // `elimination_rules`, `layout_rules`, `board_rules` and `sum_rules`; the laws of the netlist stand in proofs/.
 #![tactic(auto)]
+
 ghost use Rattle.std.specs.Prelude.{◌≡◌};
 ghost use Rattle.compile_rules.specs.Compile.{compile_refused};
 
 // What compile returns: a refusal and its place, or the bytes written and the counts.
-#[derive(Drop)]
+#[derive(Clone, Copy)]
 pub struct CompileAnswer {
     pub refusal: u8,
     pub place: usize,

@@ -20,14 +20,14 @@ use layout_rules::Output;
 use limits::{MAX_SYMBOLS, MAX_TERMS};
 
 // The operations so far with those of a row's joins, and the row's output.
-#[derive(Drop)]
+#[derive(Clone, Copy)]
 struct JoinedRow {
     operations: Operations,
     output: Output,
 }
 
 // The operations so far with those of all rows' joins, and the rows' outputs.
-#[derive(Drop)]
+#[derive(Clone, Copy)]
 pub struct JoinedRows {
     pub operations: Operations,
     pub outputs: Outputs,

@@ -9,7 +9,7 @@ use elimination_order::rank;
 use limits::{MAX_PAIRS, MAX_SYMBOLS};
 
 // A divisor's key, its score, and its rank in the order among equal scores.
-#[derive(Drop)]
+#[derive(Clone, Copy)]
 pub struct Best {
     pub key: u32,
     pub score: u8,

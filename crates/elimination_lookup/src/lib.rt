@@ -10,7 +10,7 @@ use limits::MAX_TERMS;
 use term::Term;
 
 // Where a term stands, and its sign: 1 plus, 2 minus. Where there is none: the number of terms, and 0.
-#[derive(Drop)]
+#[derive(Clone, Copy)]
 pub struct Found {
     pub place: usize,
     pub sign: u8,

@@ -12,7 +12,7 @@ use limits::{MAX_TERMS, POSITIONS};
 use term::Term;
 
 // At most MAX_TERMS terms: the nonzero digits of the columns.
-#[derive(Drop)]
+#[derive(Clone, Copy)]
 pub struct Row {
     terms: [Term; MAX_TERMS],
     count: usize,

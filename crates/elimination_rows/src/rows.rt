@@ -8,7 +8,7 @@ use crate::row::Row;
 use limits::MAX_ROWS;
 
 // At most MAX_ROWS rows.
-#[derive(Drop)]
+#[derive(Clone, Copy)]
 pub struct Rows {
     rows: [Row; MAX_ROWS],
     m: usize,

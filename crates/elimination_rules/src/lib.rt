@@ -2,7 +2,7 @@
 #![tactic(auto)]
 
 // "A divisor is thus a, b, ea, eb and the sign of b."
-#[derive(Drop)]
+#[derive(Clone, Copy)]
 pub struct Divisor {
     pub a: u16,
     pub b: u16,

@@ -18,7 +18,7 @@ use elimination_step::rows_after;
 use limits::MAX_PAIRS;
 
 // The rows, the symbol that the next divisor gets, and how many entries the table of scores has.
-#[derive(Drop)]
+#[derive(Clone, Copy)]
 pub struct RowsState {
     pub rows: Rows,
     pub symbol: u16,

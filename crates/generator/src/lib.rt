@@ -12,7 +12,7 @@ use layout_matrix::{coefficient_place, write_matrix_head};
 use layout_records::little_endian::write_word;
 
 // What generate returns: a refusal and its place, or the bytes written.
-#[derive(Drop)]
+#[derive(Clone, Copy)]
 pub struct GenerateAnswer {
     pub refusal: u8,
     pub place: usize,

@@ -33,5 +33,5 @@ module _ (h : Head) (size kind : ℕ) (its_length : size ≡ head_length_of h.wi
   pub front_length : length front ≡ head_length_of h.width
   front_length = ap length front_is ∙ length-head h
 
-  pub front_copied : (buffer : List ℕ) → take (length front) front ++ drop (length front) buffer ≡ head_bytes h ++ drop (head_length_of h.width) buffer
-  front_copied buffer = ap₂ ◌++◌ (take_all (length front) front (omega arith) ∙ front_is) (ap (λ (k : ℕ). drop k buffer) front_length)
+  pub front_copied : (buffer : List ℕ) → front ++ drop (length front) buffer ≡ head_bytes h ++ drop (head_length_of h.width) buffer
+  front_copied buffer = ap₂ ◌++◌ front_is (ap (λ (k : ℕ). drop k buffer) front_length)

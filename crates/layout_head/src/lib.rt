@@ -1,6 +1,7 @@
 // Document 01, "Netlist and board machine": the head of a netlist, read and written; which of the two heads is due. Rests on
 // `layout_records`.
 #![tactic(auto)]
+
 ghost use Rattle.std.specs.Prelude.{◌≡◌, ◌++◌, ◌≤◌, length, drop};
 ghost use Rattle.layout_rules.specs.Records.{head_kind_of, head_length_of, head_bytes};
 ghost use Rattle.layout_rules.specs.Places.{head_kind_in, head_length_in, head_at};

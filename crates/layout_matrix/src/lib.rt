@@ -1,5 +1,6 @@
 // Document 01, "Matrix record" and "Why a record was declined": the matrix record, and no bytes, as `layout_rules` has them.
 #![tactic(auto)]
+
 ghost use Rattle.std.specs.Prelude.{◌≡◌, ◌++◌, ◌+◌, ◌^◌, ◌≤◌, ◌<◌, length, drop, get_or};
 ghost use Rattle.limits.specs.Size.{SizeLimits};
 ghost use Rattle.layout_rules.specs.Matrix.{rows, columns, matrix_refusal, coefficient_at, coefficient_place, signed_word};

@@ -3,7 +3,7 @@
 #![tactic(auto)]
 
 // Kind 2, or 6: m rows, n columns, the number of operations, the sample width.
-#[derive(Drop)]
+#[derive(Clone, Copy)]
 pub struct Head {
     pub m: u8,
     pub n: u8,
@@ -12,7 +12,7 @@ pub struct Head {
 }
 
 // Kind 3: (a shifted by sa) plus (sign 0) or minus (sign 1) (b shifted by sb), and its width.
-#[derive(Drop)]
+#[derive(Clone, Copy)]
 pub struct Operation {
     pub sign: u8,
     pub a: u16,
@@ -23,7 +23,7 @@ pub struct Operation {
 }
 
 // Kind 4: plus (sign 0) or minus (sign 1) the symbol's entry shifted, or zero (sign 2), and its width.
-#[derive(Drop)]
+#[derive(Clone, Copy)]
 pub struct Output {
     pub sign: u8,
     pub symbol: u16,
@@ -32,14 +32,14 @@ pub struct Output {
 }
 
 // Kind 5: the number of operations, and the netlist's depth.
-#[derive(Drop)]
+#[derive(Clone, Copy)]
 pub struct Totals {
     pub operations: u16,
     pub depth: u16,
 }
 
 // A step's numbers. A refusal has the place given, kind 0 and next place 0; an accepted step has refusal 0 at place 0.
-#[derive(Drop)]
+#[derive(Clone, Copy)]
 pub struct StepNumbers {
     pub refusal: u8,
     pub place: usize,
@@ -48,7 +48,7 @@ pub struct StepNumbers {
 }
 
 // What the step hands back: its numbers, and the payload as a part of the lent bytes.
-#[derive(Drop)]
+#[derive(Clone, Copy)]
 pub struct StepAnswer<'a> {
     pub refusal: u8,
     pub place: usize,

@@ -1,5 +1,6 @@
 // Document 01, "Reading, checking, running": the step over a record, as `layout_rules` has it.
 #![tactic(auto)]
+
 ghost use Rattle.std.specs.Prelude.{◌≡◌};
 ghost use Rattle.layout_rules.specs.Step.{step_refusal, step_numbers, payload_at, payload_start, numbers_of};
 

@@ -9,7 +9,7 @@ pub const LONGEST_OPERATION_LINE: usize = 48;
 pub const LONGEST_OUTPUT_LINE: usize = 38;
 
 // The counts of the first line.
-#[derive(Drop)]
+#[derive(Clone, Copy)]
 pub struct Counts {
     pub inputs: u16,
     pub outputs: u16,

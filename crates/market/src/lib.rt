@@ -36,7 +36,7 @@ fn comments_end(text: &[u8], start: usize) -> usize
 }
 
 // Entries read one after another: how many, and how many bytes their lines have.
-#[derive(Drop)]
+#[derive(Clone, Copy)]
 pub struct Entries {
     pub count: usize,
     pub bytes: usize,

@@ -28,7 +28,7 @@ fn ends_number(line: &[u8], from: usize, end: usize) -> bool
 }
 
 // Whether a line has the form of a size line, and the m and n that it says, 255 where they are more.
-#[derive(Drop)]
+#[derive(Clone, Copy)]
 pub struct Size {
     pub form: bool,
     pub m: u8,
@@ -77,7 +77,7 @@ pub fn size_of(line: &[u8]) -> Size
 }
 
 // Whether a line is an entry, and the number whose two bytes say it.
-#[derive(Drop)]
+#[derive(Clone, Copy)]
 pub struct Entry {
     pub form: bool,
     pub word: u16,

@@ -58,7 +58,7 @@ fn is_digit(byte: u8) -> bool
 }
 
 // What digits say that follow one another, and where they end. A value above 65,535 is told as 65,535: no number of digits wraps.
-#[derive(Drop)]
+#[derive(Clone, Copy)]
 pub struct Digits {
     pub end: usize,
     pub value: u32,

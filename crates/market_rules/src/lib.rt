@@ -6,7 +6,7 @@ ghost use Rattle.std.specs.Prelude.{◌≡◌};
 ghost use Rattle.market_rules.specs.Market.{market_refused};
 
 // What read_matrix_market returns: a refusal and its place, or the bytes written.
-#[derive(Drop)]
+#[derive(Clone, Copy)]
 pub struct MarketAnswer {
     pub refusal: u8,
     pub place: usize,

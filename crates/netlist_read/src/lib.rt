@@ -26,7 +26,7 @@ use netlist_tests::{
 };
 
 // A refusal and its place; 0 at place 0 is none.
-#[derive(Drop)]
+#[derive(Clone, Copy)]
 pub struct Refusal {
     pub refusal: u8,
     pub place: usize,

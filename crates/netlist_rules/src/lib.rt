@@ -1,11 +1,12 @@
 // Document 01, "Reading, checking, running": what read, sample_width, check and run answer. Rests on `limits`,
 // `layout_rules` and `board_rules` alone, and sees nothing of the elimination; the theorems about these answers stand in proofs/.
 #![tactic(auto)]
+
 ghost use Rattle.std.specs.Prelude.{◌≡◌};
 ghost use Rattle.netlist_rules.specs.Read.{read_refused};
 
 // What read returns: a refusal and its place, or m, n, operations and depth.
-#[derive(Drop)]
+#[derive(Clone, Copy)]
 pub struct ReadAnswer {
     pub refusal: u8,
     pub place: usize,
@@ -32,20 +33,20 @@ impl ReadAnswer {
 }
 
 // What sample_width returns: a refusal and its place, or the sample width of the head.
-#[derive(Drop)]
+#[derive(Clone, Copy)]
 pub struct SampleWidthAnswer {
     pub refusal: u8,
     pub place: usize,
     pub width: u8,
 }
 
-#[derive(Drop)]
+#[derive(Clone, Copy)]
 pub struct CheckAnswer {
     pub refusal: u8,
     pub place: usize,
 }
 
-#[derive(Drop)]
+#[derive(Clone, Copy)]
 pub struct RunAnswer {
     pub refusal: u8,
     pub place: usize,

@@ -6,7 +6,7 @@ ghost use Rattle.std.specs.Prelude.{◌≡◌, ◌≤◌};
 
 use limits::{MAX_SYMBOLS, POSITIONS, TERM_SYMBOLS};
 
-#[derive(Drop)]
+#[derive(Clone, Copy)]
 pub struct Term {
     symbol: u16,
     exponent: u8,

@@ -11,7 +11,7 @@ use libc::STDOUT_FILENO;
 use limits::MAX_PAIRS;
 
 // Of the scores, and of key times score.
-#[derive(Drop)]
+#[derive(Clone, Copy)]
 struct Sums {
     scores: u64,
     digest: u64,

@@ -15,8 +15,8 @@ pub wrote_nothing : (before : List ℕ) → Wrote before before 0 []
 wrote_nothing before = record { counted = refl; text = refl }
 
 -- a whole slice copied to the text's start
-pub wrote_copy : (before label after : List ℕ) (count : ℕ) → count ≡ length label → after ≡ take (length label) label ++ drop (length label) before → Wrote before after count label
-wrote_copy before label after count n e = record { counted = n; text = e ∙ ap (λ (l : List ℕ). l ++ drop (length label) before) (take-length label) }
+pub wrote_copy : (before label after : List ℕ) (count : ℕ) → count ≡ length label → after ≡ label ++ drop (length label) before → Wrote before after count label
+wrote_copy before label after count n e = record { counted = n; text = e }
 
 -- the same line in other words
 pub wrote_as : {before after line same : List ℕ} {count : ℕ} → line ≡ same → Wrote before after count line → Wrote before after count same

@@ -1,6 +1,7 @@
 // Numbers and labels as text, and the line of a refusal. Each writer is lent the part of the text that starts at the current place,
 // returns the number of bytes it wrote, and leaves what stands behind them as it was.
 #![tactic(auto)]
+
 ghost use Rattle.std.specs.Prelude.{◌++◌, ◌+◌, ◌≤◌, length};
 ghost use Rattle.text.specs.Decimal.{number};
 ghost use Rattle.text.specs.Text.{ascii, refused_line, longest_refused_line};

@@ -47,7 +47,7 @@ module _ (b buffer : List ℕ) where
 
     -- and copied
     pub copied : (after : List ℕ) (number : ℕ) → count ≤ length buffer → number ≡ length (take count text)
-        → after ≡ take (length (take count text)) (take count text) ++ drop (length (take count text)) buffer
+        → after ≡ take count text ++ drop (length (take count text)) buffer
         → Answers (record { refusal = 0; place = 0; written = count }) after
     copied after number h n left =
         let room : length (netlist_text net) ≤ length buffer = omega (arith, h, w.counted) in

@@ -8,7 +8,7 @@ use limits::{MAX_COLUMNS, MAX_OPERATIONS, MAX_ROWS};
 pub const ENOUGH_TEXT: usize = 27 + 26 * MAX_COLUMNS + 57 * MAX_ROWS + 74 * MAX_OPERATIONS;
 
 // What write_verilog returns: a refusal and its place, or the bytes written.
-#[derive(Drop)]
+#[derive(Clone, Copy)]
 pub struct VerilogAnswer {
     pub refusal: u8,
     pub place: usize,

@@ -1,0 +1,15 @@
+-- `board_width::entry_width` meets its contract. Assumes nothing.
+use mathlib.Core.Path.{refl, ◌∙◌}
+use Rattle.board_rules.specs.Width.{width}
+use Rattle.board_rules.proofs.RangeLaws.{small-range_sums}
+use Rattle.board_width.proofs.entry_width.Goals as goal
+
+pub sums_of-sums-requires : goal.sums_of-sums-requires
+sums_of-sums-requires c = (c.requires.0, small-range_sums c.requires.1.1)
+
+pub width_of-requires : goal.width_of-requires
+width_of-requires c = let p = c.requires.1 in (p.0, rw c.sums_of-sums.ensures p.1.spread)
+
+pub returns : goal.returns
+unfolding width
+returns c = c.width_of_lem.ensures ∙ rw c.sums_of-sums.ensures refl

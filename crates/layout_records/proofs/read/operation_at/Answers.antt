@@ -1,0 +1,25 @@
+-- `layout_records::read::operation_at` meets its contract. Assumes nothing.
+use Prim.Native.Nat.{◌+◌}
+use mathlib.Core.Path.{refl}
+use native.Mathlib.Omega.{arith}
+use Rattle.layout_rules.specs.Records.{operation_length, operation_of}
+use Rattle.layout_rules.proofs.Fields.{payload_byte, payload-word}
+use Rattle.layout_records.proofs.read.operation_at.Goals as goal
+
+pub returns : goal.returns
+unfolding operation_of
+returns c =
+    let s = c.args in
+    let start = s.place + 4 in
+    let byte = payload_byte s.bytes.now s.place operation_length in
+    let pair = payload-word s.bytes.now s.place operation_length in
+    rw (
+      c.word_at.ensures,
+      c.word_at-2.ensures,
+      byte 0 start (omega arith) (omega arith),
+      pair 1 (start + 1) (omega arith) (omega arith),
+      byte 3 (start + 3) (omega arith) (omega arith),
+      pair 4 (start + 4) (omega arith) (omega arith),
+      byte 6 (start + 6) (omega arith) (omega arith),
+      byte 7 (start + 7) (omega arith) (omega arith),
+    ) refl
