@@ -3,7 +3,7 @@
 use Rattle.std.specs.Prelude.{ℕ, zero, suc, Bool, true, false, List, [], ◌∷◌, take, drop, nat_eq}
 
 -- one further on, or here
-abbrev pub index_after : Bool → ℕ → ℕ
+unfoldable pub index_after : Bool → ℕ → ℕ
 index_after here i = elim here [ true ↦ 0 | false ↦ suc i ]
 
 -- the index of the first byte that is wanted, or the length

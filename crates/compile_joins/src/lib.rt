@@ -2,6 +2,7 @@
 // two are joined to, and the output of a row's last term, as `sum_rules` has them. Rests on `term`, `elimination_rules` and
 // `layout_rules`.
 #![tactic(auto)]
+
 ghost use Rattle.std.specs.Prelude.{◌≡◌, ◌<◌};
 ghost use Rattle.limits.specs.Limits.{max_symbols};
 ghost use Rattle.sum_rules.specs.Joins.{sign_field, divisor_operation, join_operation, joined_term, term_output, zero_output};

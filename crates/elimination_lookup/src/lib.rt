@@ -1,6 +1,7 @@
 // Document 01, "A row lists its terms in ascending order of symbol, then exponent": the lookup of a symbol and exponent over a lent slice of terms.
 // Rests on `limits`, on `term`, and on `sign_at` of `elimination_rules`.
 #![tactic(auto)]
+
 ghost use Rattle.std.specs.Prelude.{◌≡◌, [], ◌∷◌, ◌≤◌, take};
 ghost use Rattle.limits.specs.Limits.{max_terms};
 ghost use Rattle.elimination_rules.specs.Lookup.{sign_number, sign_at};

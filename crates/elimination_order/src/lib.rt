@@ -1,6 +1,7 @@
 // Document 01, "Elimination": the divisor of two terms, its key, which is one number, and its place in the order among equal scores. Rests on
 // `term` and `elimination_rules`.
 #![tactic(auto)]
+
 ghost use Rattle.std.specs.Prelude.{◌≡◌, ◌<◌};
 ghost use Rattle.limits.specs.Limits.{max_symbols};
 ghost use Rattle.elimination_rules.specs.Rows.{Precedes};

@@ -1,6 +1,7 @@
 // Document 01, "Generated banks": generate, from m, n and a seed to a matrix record, refusals 4 and 6. Rests on `limits`,
 // `layout_records` and `layout_matrix`, and for its laws on `bank_rules`.
 #![tactic(auto)]
+
 ghost use Rattle.std.specs.Prelude.{◌≡◌, ◌≤◌, length};
 ghost use mathlib.Core.List.{flat_map};
 ghost use Rattle.layout_rules.specs.Bytes.{little_endian};

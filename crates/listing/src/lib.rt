@@ -1,6 +1,7 @@
 // Document 01, "Programs": the text that the program list-bank prints for a netlist's bytes, as `listing_rules` has it. Rests on
 // `listing_lines`, `layout_records` and `layout_head`.
 #![tactic(auto)]
+
 ghost use Rattle.std.specs.Prelude.{◌≡◌, ◌+◌, ◌*◌, ◌<◌, ◌≤◌, length};
 ghost use Rattle.layout_rules.specs.Places.{operation_place, output_place, head_length_in, first_operations, first_outputs};
 ghost use Rattle.listing_rules.specs.Listing.{operation_line, output_line};

@@ -1,6 +1,7 @@
 // Document 01, "Programs": the lines that the program list-bank prints, as `listing_rules` has them. Each writer is lent the part of
 // the text that starts at the current place, as those of `text` are.
 #![tactic(auto)]
+
 ghost use Rattle.std.specs.Prelude.{◌++◌, ◌+◌, ◌<◌, ◌≤◌, length};
 ghost use Rattle.listing_rules.specs.Listing.{shifted_operand, counts_line, operation_sign, operation_line, entry_text, value_text, output_line};
 ghost use Rattle.listing_rules.specs.Records.{longest_counts_line, longest_operation_line, longest_output_line};

@@ -1,5 +1,6 @@
 // Document 01, "Matrix Market files": the lines of a lent text, comments, and the digits of a number, as `market_rules` has them.
 #![tactic(auto)]
+
 ghost use Rattle.std.specs.Prelude.{◌≡◌, ◌+◌, ◌≤◌, min, length, drop};
 ghost use Rattle.text.specs.Decimal.{decimal_value};
 ghost use Rattle.market_rules.specs.Lines.{line};

@@ -2,6 +2,7 @@
 // file, the tests in their order, and which texts are a file of which matrix; the laws stand in proofs/. Rests on `layout_rules` and
 // `text`, and for its laws on `bank_rules`.
 #![tactic(auto)]
+
 ghost use Rattle.std.specs.Prelude.{◌≡◌};
 ghost use Rattle.market_rules.specs.Market.{market_refused};
 

@@ -1,6 +1,7 @@
 // Document 01, "Verilog": the lines of a module, as `verilog_rules` has them. Each writer is lent the part of the text that starts at the
 // current place, as those of `text` are.
 #![tactic(auto)]
+
 ghost use Rattle.std.specs.Prelude.{cond, ◌++◌, ◌≡◌, ◌+◌, ◌<◌, ◌≤◌, pred, eqb, length};
 ghost use Rattle.text.specs.Decimal.{number};
 ghost use Rattle.text.specs.Text.{ascii};

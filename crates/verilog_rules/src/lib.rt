@@ -2,6 +2,7 @@
 // `layout_rules`, `board_rules`, `netlist_rules` and `text`; the theorem that the module computes what the board machine computes stands
 // in proofs/.
 #![tactic(auto)]
+
 use limits::{MAX_COLUMNS, MAX_OPERATIONS, MAX_ROWS};
 
 // "37,987 bytes always suffice."

@@ -19,10 +19,7 @@ use Rattle.board_rules.specs.Table.{table_coefficient, operation_coefficient, op
 use Rattle.board_rules.proofs.FormLaws.{length-columns, columns_at}
 use Rattle.board_rules.proofs.TableLaws.{sets_next, sets_none}
 use Rattle.board_tables.proofs.append_form.Goals as goal
-
--- the rows below the symbol's are as they were
-abbrev Kept : ℕ → List ℤ → List ℤ → Type 0
-Kept symbol table₀ table = (i : ℕ) → i < symbol * max_columns → get_or table i (pos 0) ≡ get_or table₀ i (pos 0)
+use Rattle.board_tables.proofs.append_form.Invariants.{Kept}
 
 pub loop-j-init : goal.loop-j-init
 loop-j-init c = let e : c.args.symbol * max_columns + 0 ≡ c.args.symbol * max_columns = omega arith in (omega arith, (rw e refl, λ i h. refl))
@@ -59,22 +56,22 @@ module _ (table₀ table : List ℤ) (o : Operation) (symbol n j : ℕ) (kept : 
     kept_next i k = get_or-set_other table (symbol * max_columns + j) i (to_z w64 (of_z w64 r)) (pos 0) (λ d. omega arith) ∙ kept i k
 
 pub combined-z-requires : goal.combined-z-requires
-combined-z-requires c = let L = c.before.before.before in let s = L.before.before.before in
+combined-z-requires c = let L = c in let s = L in
     asked s.args.table.now L.loop-j.table s.args.o s.args.symbol s.args.n L.loop-j.j L.loop-j.invariant.1.1
-    c.loop-j-test.true s.requires.0.1 s.requires.1.0.0 s.requires.1.0.1
-    (record { sfits = c.x-1.given }) (record { sfits = c.y-1.given }) s.requires.1.1
+    c.loop-j-test.true s.requires.symbol_lt_max_symbols.1 s.requires.a_lt_symbol.0 s.requires.a_lt_symbol.1
+    (record { sfits = c.x-1.given }) (record { sfits = c.y-1.given }) s.requires.small_forms
 
 pub loop-j-preserved : goal.loop-j-preserved
-loop-j-preserved c = let L = c.before.before.before.before in let s = L.before.before.before in
+loop-j-preserved c = let L = c in let s = L in
     let t = next s.args.table.now L.loop-j.table s.args.o s.args.symbol s.args.n L.loop-j.j L.loop-j.invariant.1.1
-    c.loop-j-test.true s.requires.0.1 s.requires.1.0.0 s.requires.1.0.1
+    c.loop-j-test.true s.requires.symbol_lt_max_symbols.1 s.requires.a_lt_symbol.0 s.requires.a_lt_symbol.1
     (record { sfits = c.x-1.given }) (record { sfits = c.y-1.given }) c.combined-z.result c.combined-z.type_inv c.combined-z.ensures in
     let k = kept_next s.args.table.now L.loop-j.table s.args.o s.args.symbol s.args.n L.loop-j.j L.loop-j.invariant.1.1
-    c.loop-j-test.true s.requires.0.1 s.requires.1.0.0 s.requires.1.0.1
+    c.loop-j-test.true s.requires.symbol_lt_max_symbols.1 s.requires.a_lt_symbol.0 s.requires.a_lt_symbol.1
     (record { sfits = c.x-1.given }) (record { sfits = c.y-1.given }) c.combined-z.result c.combined-z.type_inv c.combined-z.ensures in
     rw add-one (omega arith, (t ∙ L.loop-j.invariant.1.0, k))
 
 pub returns : goal.returns
-returns c = let L = c.before in let s = L.before.before.before in
+returns c = let L = c in let s = L in
     sym (sets_none (pos 0) (operation_row s.args.table.now s.args.n s.args.o) L.loop-j.table (s.args.symbol * max_columns + L.loop-j.j) L.loop-j.j
     (omega (arith, length-columns 0 s.args.n (operation_coefficient s.args.table.now s.args.o)))) ∙ L.loop-j.invariant.1.0

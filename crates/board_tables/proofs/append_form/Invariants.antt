@@ -20,6 +20,10 @@ use Rattle.board_rules.proofs.FormLaws.{length-columns, columns_at}
 use Rattle.board_rules.proofs.TableLaws.{sets_next, sets_none}
 use Rattle.board_tables.proofs.append_form.Given as goal
 
+-- the rows below the symbol's are as they were
+abbrev pub Kept : ℕ → List ℤ → List ℤ → Type 0
+Kept symbol table₀ table = (i : ℕ) → i < symbol * max_columns → get_or table i (pos 0) ≡ get_or table₀ i (pos 0)
+
 abbrev pub invariant-loop-j : goal.invariant-loop-j
 invariant-loop-j l =
     (l.j ≤ l.n) × ((sets l.table (l.symbol * max_columns + l.j) (drop l.j (operation_row l.initial.table l.n l.o)) ≡ sets l.initial.table (l.symbol * max_columns) (operation_row l.initial.table l.n l.o)) × Kept l.symbol l.initial.table l.table)

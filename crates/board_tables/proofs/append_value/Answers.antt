@@ -19,6 +19,6 @@ value-is : (values : List ℤ) (o : Operation) (r : ℤ) → SFits w64 (entry_at
 value-is values o r f g ok e = call_result w64 ok (rw (is (held f), is (held g)) at e)
 
 pub returns : goal.returns
-returns c = let s = c.before.before.before.before.before in
+returns c = let s = c in
     ap (set s.args.values.now s.args.symbol) (value-is s.args.values.now s.args.o c.combined-z.result
     (record { sfits = c.x-1.given }) (record { sfits = c.y-1.given }) c.combined-z.type_inv c.combined-z.ensures)

@@ -24,9 +24,9 @@ pub loop-i-init : goal.loop-i-init
 loop-i-init c = let e : c.args.n - 0 ≡ c.args.n = omega arith in (omega arith, rw e refl)
 
 pub loop-i-preserved : goal.loop-i-preserved
-loop-i-preserved c = let L = c.before.before.before in
+loop-i-preserved c = let L = c in
     let t = next L.args.n L.loop-i.i L.loop-i.table c.start_form.new.table c.loop-i-test.true c.start_form.ensures in
     rw add-one (omega arith, t ∙ L.loop-i.invariant.1)
 
 pub returns : goal.returns
-returns c = let L = c.before in none L.args.n L.loop-i.i L.loop-i.table c.loop-i-test.false ∙ L.loop-i.invariant.1
+returns c = let L = c in none L.args.n L.loop-i.i L.loop-i.table c.loop-i-test.false ∙ L.loop-i.invariant.1

@@ -5,11 +5,11 @@ use Rattle.board_rules.proofs.RangeLaws.{small-range_sums}
 use Rattle.board_width.proofs.entry_width.Goals as goal
 
 pub sums_of-sums-requires : goal.sums_of-sums-requires
-sums_of-sums-requires c = (c.requires.0, small-range_sums c.requires.1.1)
+sums_of-sums-requires c = record { symbol_lt_max_symbols = c.requires.symbol_lt_max_symbols; symbol_bound = small-range_sums c.requires.small_range }
 
 pub width_of-requires : goal.width_of-requires
-width_of-requires c = let p = c.requires.1 in (p.0, rw c.sums_of-sums.ensures p.1.spread)
+width_of-requires c = let p = c.requires.1 in record { le_s = p.0; q_bound = rw c.sums_of-sums.ensures p.1.spread }
 
 pub returns : goal.returns
 unfolding width
-returns c = c.width_of_lem.ensures ∙ rw c.sums_of-sums.ensures refl
+returns c = c.width_of.ensures ∙ rw c.sums_of-sums.ensures refl

@@ -10,6 +10,9 @@ use Rattle.board_rules.specs.Width.{positives, negatives, width_of}
 use Rattle.board_rules.specs.Table.{table_coefficient, each_column}
 use Rattle.board_rules.proofs.OutputLaws.{plus_width, minus-width, zero-width, turned_spread}
 use Rattle.board_width.proofs.output_width.Goals as goal
+use Rattle.board_width.proofs.output_width.Lts
+use Rattle.board_width.proofs.output_width.Reads
+use Rattle.board_width.proofs.output_width.Tie
 
 -- what the spread bounds, over plain numbers
 record Bounds (p q h S : ℕ) : Type 0 where
@@ -23,26 +26,26 @@ bounds p q h s k =
     record { sums = omega (arith, mul-le-mul_left p (pow_pos h), mul-le-mul_left q (pow_pos h)); above = omega arith; below = omega arith }
 
 pub returns-then-o-gt1 : goal.returns-then-o-gt1
-returns-then-o-gt1 c = let s = c.before.before in
+returns-then-o-gt1 c = let s = c in
     zero-width (table_coefficient s.args.table.now s.args.o.symbol) s.args.n s.args.s s.args.o.shift s.args.o.sign c.if-o-gt1.true
 
-module _ (c : goal.After-struct_known-2-1) where
-  abbrev s : goal.Start
+module _ (c : Lts.After-struct_known2 Tie.the-claims Reads.Pre Reads.Post Tie.handed_clauses) where
+  abbrev s : Lts.Start Tie.the-claims Reads.Pre Reads.Post Tie.handed_clauses
   s = c.before.before.before
 
   abbrev f : ℕ → ℤ
   f = table_coefficient s.args.table.now s.args.o.symbol
 
   spread : 2 ^ (s.args.s - 1) * (positives (each_column s.args.n f) * 2 ^ s.args.o.shift + negatives (each_column s.args.n f) * 2 ^ s.args.o.shift) < 2 ^ 62
-  spread = turned_spread f s.args.n s.args.s s.args.o.shift s.args.o.sign c.if-o-gt1.false s.pre.1.1
+  spread = turned_spread f s.args.n s.args.s s.args.o.shift s.args.o.sign c.if-o-gt1.false s.requires.small_range
 
   bound : Bounds (positives (each_column s.args.n f)) (negatives (each_column s.args.n f)) s.args.o.shift s.args.s
   bound = bounds (positives (each_column s.args.n f)) (negatives (each_column s.args.n f)) s.args.o.shift s.args.s spread
 
 pub sums_of-sums-requires : goal.sums_of-sums-requires
-sums_of-sums-requires c = (((s c).requires.0.0, (s c).requires.0.1.1), (bound c).sums)
+sums_of-sums-requires c = record { symbol_lt_max_symbols = ((s c).requires.symbol_lt_max_symbols.0, (s c).requires.symbol_lt_max_symbols.1.1); symbol_bound = (bound c).sums }
 
-module _ (c : goal.After-sums_of-sums) where
+module _ (c : Lts.After-sums_of Tie.the-claims Reads.Pre Reads.Post Tie.handed_clauses) where
   above-is : c.sums_of-sums.result.positives ≡ positives (each_column (s c.before).args.n (f c.before))
   above-is = ap (λ (t : Sums). t.positives) c.sums_of-sums.ensures
 
@@ -50,13 +53,13 @@ module _ (c : goal.After-sums_of-sums) where
   below-is = ap (λ (t : Sums). t.negatives) c.sums_of-sums.ensures
 
 pub scaled-positives-requires : goal.scaled-positives-requires
-scaled-positives-requires c = ((s c.before).pre.0.1.0, rw (above-is c) (bound c.before).above)
+scaled-positives-requires c = ((s c.before).requires.symbol_lt_max_symbols.1.0, rw (above-is c) (bound c.before).above)
 
 pub scaled-negatives-requires : goal.scaled-negatives-requires
-scaled-negatives-requires c = ((s c.before.before).pre.0.1.0, rw (below-is c.before) (bound c.before.before).below)
+scaled-negatives-requires c = ((s c.before.before).requires.symbol_lt_max_symbols.1.0, rw (below-is c.before) (bound c.before.before).below)
 
-module _ (c : goal.After-struct_known-3-1) where
-  abbrev k : goal.After-struct_known-2-1
+module _ (c : Lts.After-struct_known3 Tie.the-claims Reads.Pre Reads.Post Tie.handed_clauses) where
+  abbrev k : Lts.After-struct_known2 Tie.the-claims Reads.Pre Reads.Post Tie.handed_clauses
   k = c.before.before.before.before
 
   above : c.scaled-positives.result ≡ positives (each_column (s k).args.n (f k)) * 2 ^ (s k).args.o.shift
@@ -69,21 +72,21 @@ module _ (c : goal.After-struct_known-3-1) where
 asked : (P : ℕ) {p q p' q' : ℕ} → p ≡ p' → q ≡ q' → P * (p' + q') < 2 ^ 62 → P * (p + q) < 2 ^ 62
 asked P d e h = rw (d, e) h
 
-scaled-spread : (c : goal.After-struct_known-3-1) → 2 ^ ((s (k c)).args.s - 1) * (c.scaled-positives.result + c.scaled-negatives.result) < 2 ^ 62
+scaled-spread : (c : Lts.After-struct_known3 Tie.the-claims Reads.Pre Reads.Post Tie.handed_clauses) → 2 ^ ((s (k c)).args.s - 1) * (c.scaled-positives.result + c.scaled-negatives.result) < 2 ^ 62
 scaled-spread c = asked (2 ^ ((s (k c)).args.s - 1)) (above c) (below c) (spread (k c))
 
 pub width_of-requires : goal.width_of-requires
-width_of-requires c = ((s (k c.before)).pre.1.0, omega (arith, scaled-spread c.before))
+width_of-requires c = record { le_s = (s (k c.before)).requires.le_s; q_bound = omega (arith, scaled-spread c.before) }
 
 pub width_of-requires-else-o-eq0 : goal.width_of-requires-else-o-eq0
-width_of-requires-else-o-eq0 c = ((s (k c.before)).pre.1.0, omega (arith, scaled-spread c.before))
+width_of-requires-else-o-eq0 c = record { le_s = (s (k c.before)).requires.le_s; q_bound = omega (arith, scaled-spread c.before) }
 
 pub returns-then-o-eq0 : goal.returns-then-o-eq0
-returns-then-o-eq0 c = let d = c.before.before in let t = s (k d) in
-    c.width_of_lem.ensures ∙ ap₂ (width_of t.args.s) (above d) (below d)
-    ∙ plus_width (f (k d)) t.args.n t.args.s t.args.o.shift t.args.o.sign c.if-o-eq0.true
+returns-then-o-eq0 c = let d = c in let t = s (k d.before.before) in
+    c.width_of.ensures ∙ ap₂ (width_of t.args.s) (above d.before.before) (below d.before.before)
+    ∙ plus_width (f (k d.before.before)) t.args.n t.args.s t.args.o.shift t.args.o.sign c.if-o-eq0.true
 
 pub returns-else-o-eq0 : goal.returns-else-o-eq0
-returns-else-o-eq0 c = let d = c.before.before in let t = s (k d) in
-    c.width_of-else-o-eq0.ensures ∙ ap₂ (width_of t.args.s) (below d) (above d)
-    ∙ minus-width (f (k d)) t.args.n t.args.s t.args.o.shift t.args.o.sign c.if-o-eq0.false (k d).if-o-gt1.false
+returns-else-o-eq0 c = let d = c in let t = s (k d.before.before) in
+    c.width_of-else-o-eq0.ensures ∙ ap₂ (width_of t.args.s) (below d.before.before) (above d.before.before)
+    ∙ minus-width (f (k d.before.before)) t.args.n t.args.s t.args.o.shift t.args.o.sign c.if-o-eq0.false (k d.before.before).if-o-gt1.false

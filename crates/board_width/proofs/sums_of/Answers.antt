@@ -11,6 +11,9 @@ use Rattle.board_width.specs.declared.Sums.{Sums}
 use Rattle.board_rules.specs.Width.{positive_part, negative_part, positives, negatives}
 use Rattle.board_rules.specs.Table.{table_coefficient, each_column_from, each_column}
 use Rattle.board_width.proofs.sums_of.Goals as goal
+use Rattle.board_width.proofs.sums_of.Lts
+use Rattle.board_width.proofs.sums_of.Reads
+use Rattle.board_width.proofs.sums_of.Tie
 
 -- one column of what is left
 left : (j n : ℕ) → j < n → n - j ≡ suc (n - suc j)
@@ -35,8 +38,8 @@ none-negatives f n = let e : n - n ≡ 0 = omega arith in rw e refl
 pub loop-j-init : goal.loop-j-init
 loop-j-init c = let e : c.args.n - 0 ≡ c.args.n = omega arith in rw e (omega arith, (omega arith, omega arith))
 
-module _ (c : goal.After-positive_part-positives) where
-  abbrev L : goal.At-loop-j
+module _ (c : Lts.After-positive_part Tie.the-claims Reads.Pre Reads.Post goal.the-invariant-loop-j goal.the-decreases-loop-j Tie.handed_clauses) where
+  abbrev L : Lts.At-loop Tie.the-claims Reads.Pre Reads.Post goal.the-invariant-loop-j goal.the-decreases-loop-j Tie.handed_clauses
   L = c.before.before.before
 
   abbrev f : ℕ → ℤ
@@ -51,7 +54,7 @@ module _ (c : goal.After-positive_part-positives) where
 pub overflow_add-positives : goal.overflow_add-positives
 overflow_add-positives c = omega (arith, is_positive c, next-positives (f c) (L c).loop-j.j (L c).args.n (omega arith))
 
-module _ (c : goal.After-negative_part-negatives) where
+module _ (c : Lts.After-negative_part Tie.the-claims Reads.Pre Reads.Post goal.the-invariant-loop-j goal.the-decreases-loop-j Tie.handed_clauses) where
   is_negative : c.negative_part-negatives.result ≡ negative_part (f c.before (L c.before).loop-j.j)
   is_negative = c.negative_part-negatives.ensures ∙ ap negative_part (read c.before)
 

@@ -7,6 +7,9 @@ use lib.Pow.{pow_pos}
 use Rattle.board_rules.specs.Width.{bits, highest_of, lowest_of}
 use Rattle.board_rules.proofs.WidthLaws.{bits-least}
 use Rattle.board_width.proofs.width_of.Goals as goal
+use Rattle.board_width.proofs.width_of.Lts
+use Rattle.board_width.proofs.width_of.Reads
+use Rattle.board_width.proofs.width_of.Tie
 
 -- the ends of the range, where the samples are from −P to P − 1
 record Ends (P p q spread : ℕ) : Type 0 where
@@ -33,7 +36,7 @@ overflow_add-p c = omega (arith, c.requires.q_bound, mul-le-mul_right (c.args.p 
 pub scaled-spread-requires : goal.scaled-spread-requires
 scaled-spread-requires c = (omega arith, omega (arith, c.requires.q_bound))
 
-module _ (c : goal.After-scaled-spread) where
+module _ (c : Lts.After-scaled Tie.the-claims Reads.Pre Reads.Post Tie.handed_clauses) where
   abbrev s : ℕ
   s = c.args.s
 
@@ -52,8 +55,8 @@ overflow_sub-high c = omega (arith, (range c).above)
 pub overflow_sub-low : goal.overflow_sub-low
 overflow_sub-low c = omega (arith, (range c).below)
 
-module _ (c : goal.After-larger-end) where
-  abbrev a : goal.After-scaled-spread
+module _ (c : Lts.After-larger Tie.the-claims Reads.Pre Reads.Post Tie.handed_clauses) where
+  abbrev a : Lts.After-scaled Tie.the-claims Reads.Pre Reads.Post Tie.handed_clauses
   a = c.before.before
 
   end : c.larger-end.result ≡ max (highest_of (s a) (p a) (q a)) (pred (lowest_of (s a) (p a) (q a)))

@@ -11,11 +11,11 @@ module _ (bytes : List ℕ) (i end wanted : ℕ) (h : i < end) (k : end ≤ leng
       rw add-one (drop-cons (take end bytes) i 0 l ∙ ap (λ (b : ℕ). b ∷ drop (suc i) (take end bytes)) (get_or-take end bytes i 0 h))
 
   here : get_or bytes i 0 ≡ wanted → index_of wanted (slice i end bytes) ≡ 0
-  unfolding index_of
+  unfolding index_of index_after
   here e = rw shown (ap (λ (t : Bool). index_after t (index_of wanted (slice (i + 1) end bytes))) (eq-eqb (get_or bytes i 0) wanted e))
 
   behind : (get_or bytes i 0 ≡ wanted → ⊥) → index_of wanted (slice i end bytes) ≡ index_of wanted (slice (i + 1) end bytes) + 1
-  unfolding index_of
+  unfolding index_of index_after
   behind e =
       let n = index_of wanted (slice (i + 1) end bytes) in
       rw shown (ap (λ (t : Bool). index_after t n) (ne_eqb (get_or bytes i 0) wanted e) ∙ sym (add-one n))

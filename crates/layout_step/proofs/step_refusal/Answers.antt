@@ -16,4 +16,4 @@ pub returns-then-length-lt4 : goal.returns-then-length-lt4
 returns-then-length-lt4 c = below-least _ _ (omega arith) (omega arith) (omega arith)
 
 pub returns : goal.returns
-returns-then-bytes-place c = not-refused _ _ (record { header = omega arith; whole = omega arith; least = omega arith })
+returns c = not-refused _ _ (record { header = omega arith; whole = omega arith; least = omega arith })

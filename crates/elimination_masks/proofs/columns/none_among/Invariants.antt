@@ -1,0 +1,17 @@
+-- `elimination_masks::columns::none_among` meets its contract. Assumes nothing.
+use Prim.Native.Nat.{◌-◌, ◌≤◌}
+use mathlib.Core.Path.{◌≡◌, refl, ◌∙◌}
+use mathlib.Core.Bool.{◌&&◌}
+use native.Mathlib.Omega.{arith}
+use lib.Dec.{eqb}
+use Rattle.limits.specs.Limits.{max_rows}
+use lib.ListN.{get_or}
+use Rattle.elimination_masks.specs.Masks.{none_among_from, none_among}
+use Rattle.elimination_masks.proofs.Turns.{none_next, none_end}
+use Rattle.elimination_masks.proofs.columns.none_among.Given as goal
+
+abbrev pub invariant-loop-i : goal.invariant-loop-i
+invariant-loop-i l = (l.i ≤ max_rows) × (eqb l.met 0 && none_among_from l.d l.x l.y (λ i. get_or l.asked i 0) l.i (max_rows - l.i) ≡ none_among l.d l.x l.y (λ i. get_or l.asked i 0))
+
+abbrev pub decreases-loop-i : goal.decreases-loop-i
+decreases-loop-i l = max_rows - l.i

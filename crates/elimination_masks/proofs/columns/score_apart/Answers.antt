@@ -1,0 +1,45 @@
+-- `elimination_masks::columns::score_apart` meets its contract. Assumes nothing.
+use Prim.Native.Nat.{ℕ, ◌+◌, ◌-◌, ◌*◌, ◌≤◌}
+use mathlib.Core.Path.{◌≡◌, sym, ap, ◌∙◌}
+use lib.Count.{ones, ones-le}
+use mathlib.Core.Logic.{⊎_elim}
+use native.Mathlib.Omega.{arith}
+use Rattle.limits.specs.Limits.{max_rows, positions}
+use Rattle.elimination_masks.specs.Masks.{apart_mask, mask_score_from, mask_score}
+use Rattle.elimination_masks.proofs.Turns.{ones_none, apart_none, taken-apart, score_next, score-end}
+use Rattle.std.proofs.Common.{rules}
+use Rattle.elimination_masks.proofs.columns.score_apart.Goals as goal
+
+pub loop-i-init : goal.loop-i-init
+loop-i-init c = (omega arith, omega arith, omega arith)
+
+pub overflow_cast-count : goal.overflow_cast-count
+overflow_cast-count c = let few = ones-le positions c.apart.result (search rules) in omega arith
+
+pub overflow_add-count : goal.overflow_add-count
+overflow_add-count c = let few = ones-le positions c.apart.result (search rules) in omega arith
+
+pub loop-i-preserved : goal.loop-i-preserved
+loop-i-preserved c =
+    let h = c in
+    let s = h in
+    let o = c.occurrences_in-occurring.result in
+    let found = taken-apart s.args.d s.args.x s.args.y h.loop-i.i s.requires.2 in
+    let next = score_next s.args.d s.args.x s.args.y h.loop-i.i (omega arith) in
+    let of = ap (λ (mask : ℕ). apart_mask mask s.args.d.eb positions) c.occurrences_in-occurring.ensures in
+    ⊎_elim
+    (λ w.
+    let few = ones-le positions w.1.result (search rules) in
+    let all = ap ones (w.1.ensures ∙ of ∙ sym found) in
+    (omega arith, omega arith, omega arith))
+    (λ w.
+    let none : o ≡ 0 = omega arith in
+    let nothing = ap ones (found ∙ sym of ∙ ap (λ (mask : ℕ). apart_mask mask s.args.d.eb positions) none ∙ apart_none s.args.d.eb positions) ∙ ones_none in
+    (omega arith, omega arith, omega arith))
+    c.if-occurring-ne0.branch
+
+pub returns : goal.returns
+returns c =
+    let h = c in
+    let s = h in
+    omega (arith, score-end s.args.d s.args.x s.args.y h.loop-i.i (omega arith))

@@ -1,0 +1,29 @@
+-- `elimination_masks::columns::taken` meets its contract. Assumes nothing.
+use Prim.Native.Nat.{ℕ, ◌-◌, ◌≤◌}
+use mathlib.Core.Path.{refl, sym, ap, ◌∙◌}
+use mathlib.Core.Logic.{⊎_elim}
+use native.Mathlib.Omega.{arith}
+use Rattle.limits.specs.Limits.{max_rows, positions}
+use Rattle.elimination_masks.specs.Masks.{apart_mask}
+use Rattle.elimination_masks.proofs.Turns.{taken-all, taken-apart, TakenBefore, taken_next}
+use Rattle.elimination_masks.proofs.columns.taken.Goals as goal
+
+pub loop-i-init : goal.loop-i-init
+loop-i-init c = (omega arith, (refl, λ i h. absurd (omega arith)))
+
+pub loop-i-preserved : goal.loop-i-preserved
+loop-i-preserved c =
+    let h = c in
+    let s = h in
+    let a = s.args in
+    let o = c.occurrences_in-occurring.ensures in
+    let apart = taken-apart a.d a.x a.y h.loop-i.i in
+    let all = taken-all a.d a.x a.y h.loop-i.i in
+    let found = ⊎_elim
+    (λ w. w.2 ∙ w.1.ensures ∙ ap (λ (mask : ℕ). apart_mask mask a.d.eb positions) o ∙ sym (apart w.0.taken))
+    (λ w. w.1 ∙ o ∙ sym (all w.0.left))
+    c.if-d.branch in
+    (omega arith, taken_next a.d a.x a.y h.loop-i.i h.loop-i.out c.if-d.out (omega arith) found h.loop-i.invariant.1)
+
+pub returns : goal.returns
+returns c = c.loop-i.invariant.1.1 i (omega arith)

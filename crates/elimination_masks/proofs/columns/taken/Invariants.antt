@@ -1,0 +1,15 @@
+-- `elimination_masks::columns::taken` meets its contract. Assumes nothing.
+use Prim.Native.Nat.{ℕ, ◌-◌, ◌≤◌}
+use mathlib.Core.Path.{refl, sym, ap, ◌∙◌}
+use mathlib.Core.Logic.{⊎_elim}
+use native.Mathlib.Omega.{arith}
+use Rattle.limits.specs.Limits.{max_rows, positions}
+use Rattle.elimination_masks.specs.Masks.{apart_mask}
+use Rattle.elimination_masks.proofs.Turns.{taken-all, taken-apart, TakenBefore, taken_next}
+use Rattle.elimination_masks.proofs.columns.taken.Given as goal
+
+abbrev pub invariant-loop-i : goal.invariant-loop-i
+invariant-loop-i l = (l.i ≤ max_rows) × TakenBefore l.d l.x l.y l.i l.out
+
+abbrev pub decreases-loop-i : goal.decreases-loop-i
+decreases-loop-i l = max_rows - l.i

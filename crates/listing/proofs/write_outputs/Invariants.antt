@@ -1,0 +1,23 @@
+-- `listing::write_outputs` meets its contract. The loop's invariant: what is written and the lines left make the whole. Assumes nothing.
+use Prim.Native.Nat.{ℕ, ◌+◌, ◌*◌, ◌-◌, ◌≤◌}
+use mathlib.Core.Path.{◌≡◌, refl, sym, ap, ◌∙◌}
+use native.Mathlib.Omega.{arith}
+use lib.ListN.{length, length-take, length-drop}
+use Rattle.layout_rules.specs.Records.{output_length, output_of}
+use Rattle.layout_rules.specs.Places.{payload_of, output_place, output_at, first_outputs}
+use Rattle.layout_rules.proofs.FirstRecords.{length-first, get_d_first}
+use Rattle.layout_rules.proofs.InBytes.{length-due}
+use Rattle.listing_rules.specs.Listing.{output_line}
+use Rattle.listing_rules.specs.Records.{longest_output_line}
+use Rattle.text.proofs.Listed.{Listed, listed_start, listed_more, listed_end}
+use Rattle.listing.proofs.write_outputs.Given as goal
+
+abbrev pub invariant-loop-row : goal.invariant-loop-row
+invariant-loop-row l =
+    Listed output_line 0 (first_outputs l.netlist l.operations l.outputs) l.initial.text l.text l.at l.row
+    × (l.row ≤ l.outputs)
+    × (l.at ≤ longest_output_line * l.row)
+    × (length l.text ≡ length l.initial.text)
+
+abbrev pub decreases-loop-row : goal.decreases-loop-row
+decreases-loop-row l = l.outputs - l.row
