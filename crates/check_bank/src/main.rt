@@ -5,10 +5,13 @@
 // A netlist's last record starts within 6,137 bytes and has at most 65,535, so of a longer netlist the first 131,072 bytes have the same
 // answer.
 #![tactic(auto)]
+
 ghost use Rattle.std.specs.Prelude.{◌≡◌, ◌≤◌, length};
 
 use layout_records::little_endian::word_at;
-use libc::{STDIN_FILENO, STDOUT_FILENO};
+use std::io;
+use std::io::{Read, Write};
+use streams::read_full;
 
 // One byte more than any record has.
 const TOO_LONG: usize = 65536;
@@ -22,18 +25,22 @@ fn no_netlist() -> [u8; NETLIST_ROOM]
     [0; NETLIST_ROOM]
 }
 
-fn check_matrix(matrix: &[u8]) {
+fn check_matrix<R: Read, W: Write>(input: &mut R, output: &mut W, matrix: &[u8]) -> io::Result<()> {
     let mut netlist = no_netlist();
-    let count = io::read_full(STDIN_FILENO, &mut netlist);
+    let count = read_full(input, &mut netlist)?;
     let mut text = [0u8; check_text::ROOM];
     let written = check_text::write_check(matrix, &netlist[..count], &mut text);
-    io::write_all(STDOUT_FILENO, &text[..written]);
+    output.write_all(&text[..written])
 }
 
 // The part that is lent takes the matrix record; the netlist follows.
-fn fill_matrix(matrix: &mut [u8]) {
-    let count = io::read_full(STDIN_FILENO, matrix);
-    check_matrix(&matrix[..count]);
+fn fill_matrix<R: Read, W: Write>(
+    input: &mut R,
+    output: &mut W,
+    matrix: &mut [u8],
+) -> io::Result<()> {
+    let count = read_full(input, matrix)?;
+    check_matrix(input, output, &matrix[..count])
 }
 
 // The record's length, or that of one that is too long; it fits the buffer.
@@ -46,10 +53,11 @@ fn record_length(length: &[u8; 4]) -> usize
     word_at(length, 0) as usize
 }
 
-fn main() {
+fn main(rt: HostRuntime) -> io::Result<()> {
+    let mut input = rt.stdin();
     let mut length = [0u8; 4];
-    io::read_full(STDIN_FILENO, &mut length);
+    read_full(&mut input, &mut length)?;
     let size = record_length(&length);
-    let mut matrix = io::large_buffer();
-    fill_matrix(&mut matrix[..size]);
+    let mut matrix = [0u8; 65536];
+    fill_matrix(&mut input, &mut rt.stdout(), &mut matrix[..size])
 }

@@ -4,13 +4,16 @@
 // Where the input ends early, a missing byte of the length counts as 0, the netlist is what there is of it, and the samples likewise.
 // Of samples that are longer than MOST_BYTES the first so many bytes are taken; the script clock-bank takes no such input.
 #![tactic(auto)]
+
 ghost use Rattle.std.specs.Prelude.{◌≡◌, ◌*◌, length};
 ghost use Rattle.limits.specs.Limits.{max_rows};
 ghost use Rattle.clock_text.specs.ListBytes.{most_samples};
 
 use clock_text::lists::{MOST_OUTPUTS, MOST_SAMPLES};
 use layout_records::little_endian::word_at;
-use libc::{STDIN_FILENO, STDOUT_FILENO};
+use std::io;
+use std::io::{Read, Write};
+use streams::read_full;
 
 const MOST_BYTES: usize = 4 * MOST_SAMPLES;
 
@@ -26,46 +29,65 @@ fn no_outputs() -> [i64; MOST_OUTPUTS]
     [0; MOST_OUTPUTS]
 }
 
-fn print_refusal(refusal: u8, place: usize) {
-    let mut text = io::buffer();
+fn print_refusal<W: Write>(output: &mut W, refusal: u8, place: usize) -> io::Result<()> {
+    let mut text = [0u8; 4096];
     let written = clock_text::write_refusal(refusal, place, &mut text);
-    io::write_all(STDOUT_FILENO, &text[..written]);
+    output.write_all(&text[..written])
 }
 
-fn print_line(outputs: &[i64], rows: usize, clock: usize) {
-    let mut text = io::buffer();
+fn print_line<W: Write>(
+    output: &mut W,
+    outputs: &[i64],
+    rows: usize,
+    clock: usize,
+) -> io::Result<()> {
+    let mut text = [0u8; 4096];
     let written = clock_text::write_line(outputs, rows, clock, &mut text);
-    io::write_all(STDOUT_FILENO, &text[..written]);
+    output.write_all(&text[..written])
 }
 
-fn print_lines(outputs: &[i64], rows: usize, clocks: usize) {
+fn print_lines<W: Write>(
+    output: &mut W,
+    outputs: &[i64],
+    rows: usize,
+    clocks: usize,
+) -> io::Result<()> {
     for clock in 0..clocks {
-        print_line(outputs, rows, clock);
+        print_line(output, outputs, rows, clock)?;
     }
+    Ok(())
 }
 
-fn clock_netlist(netlist: &[u8]) {
+fn clock_netlist<R: Read, W: Write>(
+    input: &mut R,
+    output: &mut W,
+    netlist: &[u8],
+) -> io::Result<()> {
     let mut samples = no_samples();
-    let count = io::read_full(STDIN_FILENO, &mut samples);
+    let count = read_full(input, &mut samples)?;
     let mut outputs = no_outputs();
     let clocked = clock_text::lists::clock_bytes(netlist, &samples[..count], &mut outputs);
     if clocked.refusal != 0 {
-        print_refusal(clocked.refusal, clocked.place);
-        return;
+        return print_refusal(output, clocked.refusal, clocked.place);
     }
-    print_lines(&outputs, clocked.rows, clocked.clocks);
+    print_lines(output, &outputs, clocked.rows, clocked.clocks)
 }
 
 // The part that is lent takes the netlist; the samples follow.
-fn fill_netlist(netlist: &mut [u8]) {
-    let count = io::read_full(STDIN_FILENO, netlist);
-    clock_netlist(&netlist[..count]);
+fn fill_netlist<R: Read, W: Write>(
+    input: &mut R,
+    output: &mut W,
+    netlist: &mut [u8],
+) -> io::Result<()> {
+    let count = read_full(input, netlist)?;
+    clock_netlist(input, output, &netlist[..count])
 }
 
-fn main() {
+fn main(rt: HostRuntime) -> io::Result<()> {
+    let mut input = rt.stdin();
     let mut length = [0u8; 2];
-    io::read_full(STDIN_FILENO, &mut length);
+    read_full(&mut input, &mut length)?;
     let size = word_at(&length, 0) as usize;
-    let mut netlist = io::large_buffer();
-    fill_netlist(&mut netlist[..size]);
+    let mut netlist = [0u8; 65536];
+    fill_netlist(&mut input, &mut rt.stdout(), &mut netlist[..size])
 }

@@ -1,14 +1,18 @@
 // Reads a sample width (1 byte) and a matrix record on standard input and prints its netlist, or its refusal. Where the input ends
 // early, the sample width counts as 0. A record has at most 65,535 bytes, so of a longer one the first 65,536 bytes have the same answer.
 #![tactic(auto)]
-use libc::{STDIN_FILENO, STDOUT_FILENO};
 
-fn main() {
+use std::io;
+use std::io::Write;
+use streams::read_full;
+
+fn main(rt: HostRuntime) -> io::Result<()> {
+    let mut input = rt.stdin();
     let mut width = [0u8; 1];
-    io::read_full(STDIN_FILENO, &mut width);
-    let mut matrix = io::large_buffer();
-    let count = io::read_full(STDIN_FILENO, &mut matrix);
-    let mut text = io::large_buffer();
+    read_full(&mut input, &mut width)?;
+    let mut matrix = [0u8; 65536];
+    let count = read_full(&mut input, &mut matrix)?;
+    let mut text = [0u8; 65536];
     let written = bank_text::write_bank(&matrix[..count], width[0], &mut text);
-    io::write_all(STDOUT_FILENO, &text[..written]);
+    rt.stdout().write_all(&text[..written])
 }

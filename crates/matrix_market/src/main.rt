@@ -2,9 +2,12 @@
 // the first so many bytes are taken; the script matrix-market takes no such file. The third byte of a record is that of its kind, and of
 // a refusal a letter.
 #![tactic(auto)]
+
 ghost use Rattle.std.specs.Prelude.{◌≡◌, length};
 
-use libc::{STDIN_FILENO, STDOUT_FILENO};
+use std::io;
+use std::io::Write;
+use streams::read_full;
 
 const MOST_BYTES: usize = 262144;
 
@@ -14,10 +17,10 @@ fn no_file() -> [u8; MOST_BYTES]
     [0; MOST_BYTES]
 }
 
-fn main() {
+fn main(rt: HostRuntime) -> io::Result<()> {
     let mut file = no_file();
-    let count = io::read_full(STDIN_FILENO, &mut file);
-    let mut output = io::buffer();
+    let count = read_full(&mut rt.stdin(), &mut file)?;
+    let mut output = [0u8; 4096];
     let written = market_output::write_market(&file[..count], &mut output);
-    io::write_all(STDOUT_FILENO, &output[..written]);
+    rt.stdout().write_all(&output[..written])
 }

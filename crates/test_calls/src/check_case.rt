@@ -1,57 +1,78 @@
 // A case of read, check and sample_width: the length of a matrix record and the length of a netlist, then the bytes of both. All three
 // answers are printed.
-use libc::{STDIN_FILENO, STDOUT_FILENO};
+use std::io;
+use std::io::{Read, Write};
+use streams::read_full;
 
-fn write_number(x: u64) {
-    io::write_all(STDOUT_FILENO, b" ");
-    io::print_decimal(STDOUT_FILENO, x);
+fn write_number<W: Write>(output: &mut W, x: u64) -> io::Result<()> {
+    write!(output, " {x}")
 }
 
-fn read_netlist(netlist: &[u8]) {
+fn read_netlist<W: Write>(output: &mut W, netlist: &[u8]) -> io::Result<()> {
     let answer = netlist_read::read(netlist);
-    io::write_all(STDOUT_FILENO, b"read");
-    write_number(answer.refusal as u64);
-    write_number(answer.place as u64);
-    write_number(answer.m as u64);
-    write_number(answer.n as u64);
-    write_number(answer.operations as u64);
-    write_number(answer.depth as u64);
-    io::write_all(STDOUT_FILENO, b"\n");
+    output.write_all(b"read")?;
+    write_number(output, answer.refusal as u64)?;
+    write_number(output, answer.place as u64)?;
+    write_number(output, answer.m as u64)?;
+    write_number(output, answer.n as u64)?;
+    write_number(output, answer.operations as u64)?;
+    write_number(output, answer.depth as u64)?;
+    output.write_all(b"\n")
 }
 
-fn check_netlist(matrix: &[u8], netlist: &[u8]) {
+fn check_netlist<W: Write>(output: &mut W, matrix: &[u8], netlist: &[u8]) -> io::Result<()> {
     let answer = netlist_check::check(matrix, netlist);
-    io::write_all(STDOUT_FILENO, b"check");
-    write_number(answer.refusal as u64);
-    write_number(answer.place as u64);
-    io::write_all(STDOUT_FILENO, b"\n");
+    output.write_all(b"check")?;
+    write_number(output, answer.refusal as u64)?;
+    write_number(output, answer.place as u64)?;
+    output.write_all(b"\n")
 }
 
-fn sample_width_of(netlist: &[u8]) {
+fn sample_width_of<W: Write>(output: &mut W, netlist: &[u8]) -> io::Result<()> {
     let answer = netlist_read::sample_width(netlist);
-    io::write_all(STDOUT_FILENO, b"width");
-    write_number(answer.refusal as u64);
-    write_number(answer.place as u64);
-    write_number(answer.width as u64);
-    io::write_all(STDOUT_FILENO, b"\n");
+    output.write_all(b"width")?;
+    write_number(output, answer.refusal as u64)?;
+    write_number(output, answer.place as u64)?;
+    write_number(output, answer.width as u64)?;
+    output.write_all(b"\n")
 }
 
 // The part that is lent takes the netlist.
-fn fill_netlist(matrix: &[u8], netlist: &mut [u8]) {
-    io::read_full(STDIN_FILENO, netlist);
-    read_netlist(netlist);
-    check_netlist(matrix, netlist);
-    sample_width_of(netlist);
+fn fill_netlist<R: Read, W: Write>(
+    input: &mut R,
+    output: &mut W,
+    matrix: &[u8],
+    netlist: &mut [u8],
+) -> io::Result<()> {
+    read_full(input, netlist)?;
+    read_netlist(output, netlist)?;
+    check_netlist(output, matrix, netlist)?;
+    sample_width_of(output, netlist)
 }
 
 // The part that is lent takes the matrix record; the netlist follows.
-fn fill_matrix(matrix: &mut [u8], length: u16) {
-    io::read_full(STDIN_FILENO, matrix);
-    let mut netlist = io::large_buffer();
-    fill_netlist(matrix, &mut netlist[..length as usize]);
+fn fill_matrix<R: Read, W: Write>(
+    input: &mut R,
+    output: &mut W,
+    matrix: &mut [u8],
+    length: u16,
+) -> io::Result<()> {
+    read_full(input, matrix)?;
+    let mut netlist = [0u8; 65536];
+    fill_netlist(input, output, matrix, &mut netlist[..length as usize])
 }
 
-pub(crate) fn check_case(matrix_length: u16, netlist_length: u16) {
-    let mut matrix = io::large_buffer();
-    fill_matrix(&mut matrix[..matrix_length as usize], netlist_length);
+pub(crate) fn check_case<R: Read, W: Write>(
+    input: &mut R,
+    output: &mut W,
+    matrix_length: u16,
+    netlist_length: u16,
+) -> io::Result<()> {
+    let mut matrix = [0u8; 65536];
+    fill_matrix(
+        input,
+        output,
+        &mut matrix[..matrix_length as usize],
+        netlist_length,
+    )
 }

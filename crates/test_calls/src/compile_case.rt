@@ -3,7 +3,9 @@
 ghost use Rattle.std.specs.Prelude.{◌≡◌, length};
 
 use compile_rules::CompileAnswer;
-use libc::{STDIN_FILENO, STDOUT_FILENO};
+use std::io;
+use std::io::{Read, Write};
+use streams::read_full;
 
 // What the lent buffer holds before.
 fn old_bytes() -> [u8; 65536]
@@ -12,46 +14,66 @@ fn old_bytes() -> [u8; 65536]
     [0xA5; 65536]
 }
 
-fn write_number(x: u64) {
-    io::print_decimal(STDOUT_FILENO, x);
-    io::write_all(STDOUT_FILENO, b" ");
+fn write_number<W: Write>(output: &mut W, x: u64) -> io::Result<()> {
+    write!(output, "{x} ")
 }
 
-fn write_bytes(bytes: &[u8]) {
-    for i in 0..bytes.len() {
-        io::print_hex(STDOUT_FILENO, bytes[i] as u64, 2);
+fn write_bytes<W: Write>(output: &mut W, bytes: &[u8]) -> io::Result<()> {
+    for byte in bytes {
+        write!(output, "{byte:02x}")?;
     }
-    io::write_all(STDOUT_FILENO, b"\n");
+    output.write_all(b"\n")
 }
 
-fn write_answer(answer: CompileAnswer) {
-    write_number(answer.refusal as u64);
-    write_number(answer.place as u64);
-    write_number(answer.written as u64);
-    write_number(answer.operations as u64);
-    write_number(answer.plain as u64);
-    write_number(answer.divisors as u64);
-    write_number(answer.replacements as u64);
-    write_number(answer.depth as u64);
-    io::print_decimal(STDOUT_FILENO, answer.negated as u64);
-    io::write_all(STDOUT_FILENO, b"\n");
+fn write_answer<W: Write>(output: &mut W, answer: CompileAnswer) -> io::Result<()> {
+    write_number(output, answer.refusal as u64)?;
+    write_number(output, answer.place as u64)?;
+    write_number(output, answer.written as u64)?;
+    write_number(output, answer.operations as u64)?;
+    write_number(output, answer.plain as u64)?;
+    write_number(output, answer.divisors as u64)?;
+    write_number(output, answer.replacements as u64)?;
+    write_number(output, answer.depth as u64)?;
+    writeln!(output, "{}", answer.negated)
 }
 
-fn compile_into(matrix: &[u8], width: u8, buffer: &mut [u8]) {
-    write_answer(compile::compile(matrix, width, buffer));
-    write_bytes(buffer);
+fn compile_into<W: Write>(
+    output: &mut W,
+    matrix: &[u8],
+    width: u8,
+    buffer: &mut [u8],
+) -> io::Result<()> {
+    write_answer(output, compile::compile(matrix, width, buffer))?;
+    write_bytes(output, buffer)
 }
 
 // The part that is lent takes the matrix record.
-fn fill_matrix(matrix: &mut [u8], width: u8, room: u16) {
-    io::read_full(STDIN_FILENO, matrix);
+fn fill_matrix<R: Read, W: Write>(
+    input: &mut R,
+    output: &mut W,
+    matrix: &mut [u8],
+    width: u8,
+    room: u16,
+) -> io::Result<()> {
+    read_full(input, matrix)?;
     let mut buffer = old_bytes();
-    compile_into(matrix, width, &mut buffer[..room as usize]);
+    compile_into(output, matrix, width, &mut buffer[..room as usize])
 }
 
-pub(crate) fn compile_case(room: u16, length: u16) {
+pub(crate) fn compile_case<R: Read, W: Write>(
+    input: &mut R,
+    output: &mut W,
+    room: u16,
+    length: u16,
+) -> io::Result<()> {
     let mut width = [0u8; 1];
-    io::read_full(STDIN_FILENO, &mut width);
-    let mut matrix = io::large_buffer();
-    fill_matrix(&mut matrix[..length as usize], width[0], room);
+    read_full(input, &mut width)?;
+    let mut matrix = [0u8; 65536];
+    fill_matrix(
+        input,
+        output,
+        &mut matrix[..length as usize],
+        width[0],
+        room,
+    )
 }

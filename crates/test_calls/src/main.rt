@@ -2,39 +2,52 @@
 // 1 read, check and sample_width, 2 run), two numbers (2 bytes each, little-endian), and the bytes that belong to them, as the call's
 // file says. What is printed is compared with the output of a second implementation.
 #![tactic(auto)]
+
 mod compile_case; // compile_case.rt: a case of compile
 mod check_case; // check_case.rt: a case of read, check and sample_width
 mod run_case; // run_case.rt: a case of run
 
 use layout_records::little_endian::word_at;
-use libc::STDIN_FILENO;
+use std::io;
+use std::io::{BufWriter, Read, Write};
+use streams::read_full;
 
-fn one_case(call: u8, first: u16, second: u16) {
+fn one_case<R: Read, W: Write>(
+    input: &mut R,
+    output: &mut W,
+    call: u8,
+    first: u16,
+    second: u16,
+) -> io::Result<()> {
     if call == 0 {
-        compile_case::compile_case(first, second);
+        compile_case::compile_case(input, output, first, second)
     } else if call == 1 {
-        check_case::check_case(first, second);
+        check_case::check_case(input, output, first, second)
     } else {
-        run_case::run_case(first, second);
+        run_case::run_case(input, output, first, second)
     }
 }
 
 // Reads one case and answers whether there was one.
-fn next_case() -> bool {
+fn next_case<R: Read, W: Write>(input: &mut R, output: &mut W) -> io::Result<bool> {
     let mut head = [0u8; 5];
-    if io::read_full(STDIN_FILENO, &mut head) < 5 {
-        return false;
+    if read_full(input, &mut head)? < 5 {
+        return Ok(false);
     }
     let first = word_at(&head, 1);
     let second = word_at(&head, 3);
-    one_case(head[0], first, second);
-    true
+    one_case(input, output, head[0], first, second)?;
+    Ok(true)
 }
 
-// Nothing says that the input ends, so the cases are counted down from a number that no run uses up.
-fn main() {
-    let mut cases = u64::MAX;
-    while cases > 0 && next_case() {
-        cases -= 1;
+// Nothing says that the input ends, so the cases are counted up to a number that no run reaches.
+fn main(rt: HostRuntime) -> io::Result<()> {
+    let mut input = rt.stdin();
+    let mut output = BufWriter::new(rt.alloc(), rt.stdout())?;
+    for _ in 0..u64::MAX {
+        if !next_case(&mut input, &mut output)? {
+            break;
+        }
     }
+    output.flush()
 }

@@ -7,8 +7,9 @@ ghost use Rattle.test_scores.specs.Sums.{score_sum, digest, largest_score, large
 use compile_plan::eliminated::eliminate_rows;
 use compile_plan::rows::matrix_rows;
 use elimination_kept::{blank_keys, blank_scores};
-use libc::STDOUT_FILENO;
 use limits::MAX_PAIRS;
+use std::io;
+use std::io::Write;
 
 // Of the scores, and of key times score.
 #[derive(Clone, Copy)]
@@ -36,12 +37,10 @@ fn table_sums(keys: &[u32; MAX_PAIRS], scores: &[u8; MAX_PAIRS], kept: usize) ->
 {
     let mut sum: u64 = 0;
     let mut digest: u64 = 0;
-    let mut i = 0;
-    while i < kept {
+    for i in 0..kept {
         let entry = entry_sums(keys[i], scores[i]);
         sum += entry.scores;
         digest += entry.digest;
-        i += 1;
     }
     Sums {
         scores: sum,
@@ -49,17 +48,12 @@ fn table_sums(keys: &[u32; MAX_PAIRS], scores: &[u8; MAX_PAIRS], kept: usize) ->
     }
 }
 
-fn print_line(entries: usize, sums: Sums) {
-    io::print_decimal(STDOUT_FILENO, entries as u64);
-    io::write_all(STDOUT_FILENO, b" ");
-    io::print_decimal(STDOUT_FILENO, sums.scores);
-    io::write_all(STDOUT_FILENO, b" ");
-    io::print_decimal(STDOUT_FILENO, sums.digest);
-    io::write_all(STDOUT_FILENO, b"\n");
+fn print_line<W: Write>(output: &mut W, entries: usize, sums: Sums) -> io::Result<()> {
+    writeln!(output, "{entries} {} {}", sums.scores, sums.digest)
 }
 
 // Prints the line of the state after so many steps from the matrix's rows and answers true, unless elimination ends before.
-pub(crate) fn print_state(matrix: &[u8], steps: usize) -> bool
+pub(crate) fn print_state<W: Write>(output: &mut W, matrix: &[u8], steps: usize) -> io::Result<bool>
     requires { matrix_refusal matrix.now ≡ 0 }
 {
     let n = layout_matrix::column_count(matrix) as u16;
@@ -69,9 +63,9 @@ pub(crate) fn print_state(matrix: &[u8], steps: usize) -> bool
     let state = eliminate_rows(first, n, steps, &mut keys, &mut scores);
     let made = state.operations;
     if made.count() < steps {
-        return false;
+        return Ok(false);
     }
     let sums = table_sums(&keys, &scores, state.kept);
-    print_line(state.kept, sums);
-    true
+    print_line(output, state.kept, sums)?;
+    Ok(true)
 }

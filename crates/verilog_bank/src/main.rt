@@ -2,9 +2,12 @@
 // 6,137 bytes and has at most 65,535, so of longer input the first 131,072 bytes have the same answer. A text begins with `module`, and
 // never with `refused`.
 #![tactic(auto)]
+
 ghost use Rattle.std.specs.Prelude.{◌≡◌, length};
 
-use libc::{STDIN_FILENO, STDOUT_FILENO};
+use std::io;
+use std::io::Write;
+use streams::read_full;
 
 // As much of a netlist as any answer needs.
 const NETLIST_ROOM: usize = 131072;
@@ -15,10 +18,10 @@ fn no_netlist() -> [u8; NETLIST_ROOM]
     [0; NETLIST_ROOM]
 }
 
-fn main() {
+fn main(rt: HostRuntime) -> io::Result<()> {
     let mut netlist = no_netlist();
-    let count = io::read_full(STDIN_FILENO, &mut netlist);
-    let mut output = io::large_buffer();
+    let count = read_full(&mut rt.stdin(), &mut netlist)?;
+    let mut output = [0u8; 65536];
     let written = verilog_output::write_module(&netlist[..count], &mut output);
-    io::write_all(STDOUT_FILENO, &output[..written]);
+    rt.stdout().write_all(&output[..written])
 }
