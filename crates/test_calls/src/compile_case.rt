@@ -26,14 +26,14 @@ fn write_bytes<W: Write>(output: &mut W, bytes: &[u8]) -> io::Result<()> {
 }
 
 fn write_answer<W: Write>(output: &mut W, answer: CompileAnswer) -> io::Result<()> {
-    write_number(output, answer.refusal as u64)?;
+    write_number(output, u64::from(answer.refusal))?;
     write_number(output, answer.place as u64)?;
     write_number(output, answer.written as u64)?;
-    write_number(output, answer.operations as u64)?;
-    write_number(output, answer.plain as u64)?;
-    write_number(output, answer.divisors as u64)?;
-    write_number(output, answer.replacements as u64)?;
-    write_number(output, answer.depth as u64)?;
+    write_number(output, u64::from(answer.operations))?;
+    write_number(output, u64::from(answer.plain))?;
+    write_number(output, u64::from(answer.divisors))?;
+    write_number(output, u64::from(answer.replacements))?;
+    write_number(output, u64::from(answer.depth))?;
     writeln!(output, "{}", answer.negated)
 }
 
