@@ -2,7 +2,7 @@
  * Prints the outputs of each clock, then the store, whose last two numbers are behind the registers. Then refusals 6, 15, 16 and
  * 21, and 7, which is tested before them.
  *
- *     rt staticlib zaatarloft
+ *     scripts/build zaatarloft
  *     cc -I include examples/clocked.c -L target/staticlib -lzaatarloft -o clocked
  */
 #include "zaatarloft.h"

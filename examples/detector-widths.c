@@ -1,7 +1,7 @@
 /* Detectors of 8 to 24 bits from C: compiles the row 3, -3 for samples of several widths, and runs each netlist on the steepest samples of
  * its width, then with the second one past its end.
  *
- *     rt staticlib zaatarloft
+ *     scripts/build zaatarloft
  *     cc -I include examples/detector-widths.c -L target/staticlib -lzaatarloft -o detector-widths
  */
 #include "zaatarloft.h"

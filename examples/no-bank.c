@@ -1,7 +1,7 @@
 /* A channel with no bank: its matrix file has no bytes. Compiles what the file named holds, or no bytes where none is named, then
  * reads, checks and runs the netlist, writes its Verilog module and clocks an empty list. Where a length is 0 it lends NULL.
  *
- *     rt staticlib zaatarloft
+ *     scripts/build zaatarloft
  *     cc -I include examples/no-bank.c -L target/staticlib -lzaatarloft -o no-bank
  */
 #include "zaatarloft.h"

@@ -1,6 +1,6 @@
 /* Document 01's example from C: compiles the row 3, -3 for samples of 16 bits, then steps over, reads, checks and runs the netlist.
  *
- *     rt staticlib zaatarloft
+ *     scripts/build zaatarloft
  *     cc -I include examples/three-minus-three.c -L target/staticlib -lzaatarloft -o three-minus-three
  */
 #include "zaatarloft.h"

@@ -1,6 +1,6 @@
 /* Zaatarloft's calls for C and C++: compile, read, sample_width, check, run, step, generate, read_matrix_market,
  * write_verilog, registers and clock, as docs/SPECIFICATION.md has them, which is cited as document 01.
- * The library is target/staticlib/libzaatarloft.a, for x86-64 Linux; `rt staticlib zaatarloft` proves and builds it.
+ * The library is target/staticlib/libzaatarloft.a, for x86-64 Linux; `scripts/build zaatarloft` proves and builds it.
  *
  * Every call returns its answer as a struct: the refusal's number, 0 where it accepts, its place, then the other numbers, which
  * are 0 where it refuses. An accepted call has place 0. Use these calls and not the raw functions under them: a later version

@@ -11,7 +11,7 @@ fn main() {
     println!("cargo:rerun-if-changed={}", library.display());
     if !library.exists() {
         eprintln!(
-            "{} is missing. At the repository's root run: rt staticlib zaatarloft",
+            "{} is missing. At the repository's root run: scripts/build zaatarloft",
             library.display()
         );
         process::exit(1);

@@ -3,6 +3,7 @@
 // Each function returns the refusal's number, 0 where it accepts, and writes the other numbers of the answer through the references.
 // The names say raw: include/zaatarloft.h and rust/src/lib.rs have calls over them that give an answer as one struct.
 #![tactic(auto)]
+
 ghost use Rattle.std.specs.Prelude.{◌≡◌, length};
 ghost use Rattle.compile_rules.specs.Compile.{compile_answer, compile_buffer};
 ghost use Rattle.netlist_rules.specs.Read.{read_answer, sample_width_answer};
@@ -29,7 +30,7 @@ pub extern "C" fn zaatarloft_raw_compile(
     depth: &mut u16,
     negated: &mut u16,
 ) -> u8
-    ensures negated_after { record { refusal = result; place = place.new; written = written.new; operations = operations.new; plain = plain.new; divisors = divisors.new; replacements = replacements.new; depth = depth.new; negated = negated.new } ≡ compile_answer sample_width matrix.now (length buffer.old) }
+    ensures answer { record { refusal = result; place = place.new; written = written.new; operations = operations.new; plain = plain.new; divisors = divisors.new; replacements = replacements.new; depth = depth.new; negated = negated.new } ≡ compile_answer sample_width matrix.now (length buffer.old) }
     ensures buffer_after { buffer.new ≡ compile_buffer sample_width matrix.now buffer.old }
 {
     let compiled = compile::compile(matrix, sample_width, buffer);
@@ -98,7 +99,7 @@ pub extern "C" fn zaatarloft_raw_run(
     outputs: &mut [i64],
     place: &mut usize,
 ) -> u8
-    ensures place_after { record { refusal = result; place = place.new } ≡ run_answer netlist.now samples.now (length outputs.old) }
+    ensures answer { record { refusal = result; place = place.new } ≡ run_answer netlist.now samples.now (length outputs.old) }
     ensures outputs_after { outputs.new ≡ run_outputs netlist.now samples.now outputs.old }
 {
     let ran = netlist_run::run(netlist, samples, outputs);
@@ -135,7 +136,7 @@ pub extern "C" fn zaatarloft_raw_generate(
     place: &mut usize,
     written: &mut usize,
 ) -> u8
-    ensures written_after { record { refusal = result; place = place.new; written = written.new } ≡ generate_answer m n seed (length buffer.old) }
+    ensures answer { record { refusal = result; place = place.new; written = written.new } ≡ generate_answer m n seed (length buffer.old) }
     ensures buffer_after { buffer.new ≡ generate_buffer m n seed buffer.old }
 {
     let generated = generator::generate(m, n, seed, buffer);
@@ -152,7 +153,7 @@ pub extern "C" fn zaatarloft_raw_read_matrix_market(
     place: &mut usize,
     written: &mut usize,
 ) -> u8
-    ensures written_after { record { refusal = result; place = place.new; written = written.new } ≡ market_answer text.now (length buffer.old) }
+    ensures answer { record { refusal = result; place = place.new; written = written.new } ≡ market_answer text.now (length buffer.old) }
     ensures buffer_after { buffer.new ≡ market_buffer text.now buffer.old }
 {
     let converted = market::read_matrix_market(text, buffer);
@@ -169,7 +170,7 @@ pub extern "C" fn zaatarloft_raw_write_verilog(
     place: &mut usize,
     written: &mut usize,
 ) -> u8
-    ensures written_after { record { refusal = result; place = place.new; written = written.new } ≡ verilog_answer netlist.now (length buffer.old) }
+    ensures answer { record { refusal = result; place = place.new; written = written.new } ≡ verilog_answer netlist.now (length buffer.old) }
     ensures buffer_after { buffer.new ≡ verilog_buffer netlist.now buffer.old }
 {
     let wrote = verilog::write_verilog(netlist, buffer);
@@ -202,7 +203,7 @@ pub extern "C" fn zaatarloft_raw_clock(
     outputs: &mut [i64],
     place: &mut usize,
 ) -> u8
-    ensures place_after { record { refusal = result; place = place.new } ≡ clock_answer netlist.now samples.now (length store.old) (length outputs.old) }
+    ensures answer { record { refusal = result; place = place.new } ≡ clock_answer netlist.now samples.now (length store.old) (length outputs.old) }
     ensures store_after { store.new ≡ clock_store netlist.now samples.now store.old (length outputs.old) }
     ensures outputs_after { outputs.new ≡ clock_outputs netlist.now samples.now store.old outputs.old }
 {
