@@ -72,14 +72,14 @@ fn specs(file: &str) -> PathBuf {
     crates.join(name).join(format!("specs/{module}.antt"))
 }
 
-/// The files of specs/ that a line such as `use Rattle·limits.specs.Size.{sizeOutside}` imports, as `limits/Size`. Structs, which are
-/// declared in src/, have no such file.
+/// The files of specs/ that a line such as `use Rattle.limits.specs.Size.{size_outside}` imports, as `limits/Size`. Structs, which are
+/// declared in src/, have no such file, nor has the standard library.
 fn imported(line: &str) -> Option<String> {
-    let path = line.strip_prefix("use Rattle·")?.split(['{', ' ']).next()?;
+    let path = line.strip_prefix("use Rattle.")?.split(['{', ' ']).next()?;
     let mut parts = path.split('.').filter(|part| !part.is_empty());
-    let name = parts.next()?.trim_end_matches("·specs");
+    let name = parts.next()?;
     let module = parts.find(|part| *part != "specs")?;
-    (module != "declared").then(|| format!("{name}/{module}"))
+    (crates().contains(name) && module != "declared").then(|| format!("{name}/{module}"))
 }
 
 /// Adds a file and all that it imports.
@@ -130,7 +130,9 @@ fn believed_files_are_listed() {
 fn crates() -> BTreeSet<&'static str> {
     let lines = CRATES.lines().filter(|line| !line.starts_with('#'));
     let names = lines.filter_map(|line| line.split_once(':'));
-    names.map(|(name, _)| name).collect()
+    // what the crate is stands behind its name, as `zaatarloft staticlib`
+    let words = names.filter_map(|(name, _)| name.split_whitespace().next());
+    words.collect()
 }
 
 /// A name as `compile_sums::sum_rows` begins with its crate, or with a struct.
