@@ -69,7 +69,7 @@ fn declarations_agree() {
             .flat_map(|parameter| as_pointers(parameter))
             .collect();
     }
-    assert_eq!(exported.len(), EXPORTED.matches("#[no_mangle]").count());
+    assert_eq!(exported.len(), EXPORTED.matches("#[unsafe(no_mangle)]").count());
     assert_eq!(signatures(DECLARED, "pub fn ", &[";"]), exported);
 }
 
