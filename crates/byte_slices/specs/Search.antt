@@ -1,6 +1,6 @@
 -- The search for a byte.
 -- Assumes nothing.
-use Rattle.std.specs.Prelude.{ℕ, zero, suc, Bool, true, false, List, [], ◌∷◌, take, drop, nat_eq}
+use Rattle.std.specs.Prelude.{ℕ, suc, Bool, true, false, List, [], ◌∷◌, take, drop, nat_eq}
 
 -- one further on, or here
 unfoldable pub index_after : Bool → ℕ → ℕ

@@ -1,6 +1,7 @@
 // Document 01, "Row sums": the operations and outputs of the remaining rows, in the shallowest order, as `sum_rules` has them. Rests on
 // `compile_joins`, `compile_order`, `compile_lists` and `board_tables`.
 #![tactic(auto)]
+
 ghost use Rattle.std.specs.Prelude.{◌≡◌, ◌++◌, ◌+◌, ◌≤◌, ◌<◌, pred, length};
 ghost use Rattle.limits.specs.Limits.{max_rows, max_columns, max_operations};
 ghost use Rattle.board_rules.specs.Table.{HoldsDepths};

@@ -1,6 +1,7 @@
 // Document 01, "Netlist and board machine": the netlist's records, written one after another into the lent buffer, with widths over
 // samples of s bits and depth. Rests on `layout_records`, `layout_head`, `board_width`, `board_tables` and `compile_lists`.
 #![tactic(auto)]
+
 ghost use Rattle.std.specs.Prelude.{◌≡◌, ◌≤◌, ◌<◌, length, drop};
 ghost use mathlib.Core.List.{[], ◌++◌, flat_map, map};
 ghost use Rattle.limits.specs.Limits.{max_columns, max_operations, max_symbols};

@@ -1,5 +1,6 @@
 // Document 01, "Elimination": the columns of the rows, as masks. Rests on `elimination_masks` and `elimination_rows`.
 #![tactic(auto)]
+
 ghost use Rattle.std.specs.Prelude.{◌≡◌, ◌<◌, length, set};
 ghost use Rattle.limits.specs.Limits.{max_rows, positions, term_symbols};
 ghost use Rattle.elimination_masks.specs.Columns.{ColumnsOf};

@@ -1,6 +1,7 @@
 // Request A3: the entries that rows gain, each divisor at its first occurrence. Rests on `elimination_kept`, `elimination_order`,
 // `elimination_rows` and `elimination_masks`.
 #![tactic(auto)]
+
 ghost use Rattle.std.specs.Prelude.{◌≡◌, [], ◌∷◌, ◌++◌, ◌<◌, ◌≤◌, length, get_or, take};
 ghost use Rattle.limits.specs.Limits.{max_rows, positions, max_terms, term_symbols};
 ghost use Rattle.elimination_rules.specs.Rows.{Precedes, WellFormed};

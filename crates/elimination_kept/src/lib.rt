@@ -1,6 +1,7 @@
 // Request A3: the kept scores of all divisors that have an occurrence, in a table that is lent: keys in one array, scores in another, in no
 // order. Rests on `elimination_order`, `elimination_rows` and `elimination_masks`.
 #![tactic(auto)]
+
 pub mod pick; // pick.rt: the pick
 pub mod refresh; // refresh.rt: the entries after a step
 

@@ -1,2 +1,1 @@
 pub mod Looking
-pub mod Front

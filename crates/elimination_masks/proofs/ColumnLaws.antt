@@ -137,7 +137,7 @@ module _ (signs : ℕ → Signs) (d : Divisor) where
   rows_all zero all = refl
   rows_all (suc n) all = and_both (occurs_nowhere (signs n) d positions) (occurs_in_none positions signs d n) (all n (omega arith)) (rows_all n (λ i h. all i (omega arith)))
 
--- which co_divisors_lem are asked for in the rows before one, in it, and behind it
+-- which co-divisors are asked for in the rows before one, in it, and behind it
 pub earlier_before : (row c i : ℕ) → i < row → earlier_mask row c i ≡ 2 ^ positions - 1
 earlier_before row c i h = sym (yes_branch (ltb i row) _ _ (lt-ltb i row h))
 

@@ -1,4 +1,4 @@
--- What masks say of one row: where a divisor occurs, what is taken of it and how often, and whether it occurs among the first co_divisors_lem.
+-- What masks say of one row: where a divisor occurs, what is taken of it and how often, and whether it occurs among the first co-divisors.
 -- Assumes nothing.
 use mathlib.Core.Path.{◌≡◌, refl, sym, ap, ap₂, ◌∙◌, subst}
 use mathlib.Core.Bool.{Bool, true, false, not, ◌&&◌, ◌||◌, and-true}
@@ -191,7 +191,7 @@ ones_count (suc n) x h =
     let counted = count-append (bits_of x n) (bit_at x n) in
     omega arith
 
--- ---- among the first co_divisors_lem
+-- ---- among the first co-divisors
 
 module _ (signs : Signs) (d : Divisor) where
   nowhere : (n : ℕ) → occurs_nowhere signs d n ≡ true → (c : ℕ) → c < n → occurs_at signs d c ≡ false

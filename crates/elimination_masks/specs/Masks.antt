@@ -32,7 +32,7 @@ occurrences_in d x y i = occurrence_mask d (plus_in x i) (minus_in x i) (plus_in
 
 -- ---- what is taken
 
--- where a and b are one symbol: an occurrence at c is taken unless that at c - distance is; of the first co_divisors_lem
+-- where a and b are one symbol: an occurrence at c is taken unless that at c - distance is; of the first co-divisors
 unfoldable pub apart_mask : ℕ → ℕ → ℕ → ℕ
 unfolding bit_at
 apart_mask occurrences distance zero = 0
@@ -74,7 +74,7 @@ none_among_from d x y asked i (suc k) = eqb (bit_and (occurrences_in d x y i) (a
 abbrev pub none_among : Divisor → List ℕ → List ℕ → (ℕ → ℕ) → Bool
 none_among d x y asked = none_among_from d x y asked 0 max_rows
 
--- all co_divisors_lem in the rows before a row, and those below c in it
+-- all co-divisors in the rows before a row, and those below c in it
 abbrev pub earlier_mask : ℕ → ℕ → ℕ → ℕ
 earlier_mask row c i = elim (ltb i row) [ true ↦ 2 ^ positions - 1 | false ↦ elim (eqb i row) [ true ↦ 2 ^ c - 1 | false ↦ 0 ] ]
 
@@ -84,7 +84,7 @@ earlier_mask row c i = elim (ltb i row) [ true ↦ 2 ^ positions - 1 | false ↦
 abbrev pub without_mask : ℕ → ℕ → ℕ → ℕ
 without_mask mask taken e = bit_xor mask (bit_and mask (taken * 2 ^ e % 2 ^ positions))
 
--- the co_divisors_lem of the taken occurrences whose first term, with exponent e, is in the mask
+-- the co-divisors of the taken occurrences whose first term, with exponent e, is in the mask
 abbrev pub made_mask : ℕ → ℕ → ℕ → ℕ
 made_mask mask taken e = bit_and (mask / 2 ^ e) taken
 

@@ -128,7 +128,7 @@ pub fn without(x: Column, taken: [u16; MAX_ROWS], e: u8) -> Column
     out
 }
 
-// The column of the new symbol: the co_divisors_lem of the taken occurrences, with the signs of their first terms.
+// The column of the new symbol: the co-divisors of the taken occurrences, with the signs of their first terms.
 pub fn made(x: Column, taken: [u16; MAX_ROWS], e: u8) -> Column
     requires { e < positions }
     ensures { Made result x taken e }

@@ -1,4 +1,5 @@
 // Document 01, "Digits and terms" and "Elimination": the rows, by value. Rests on `limits`, `term`, `digits` and `elimination_lookup`.
 #![tactic(auto)]
+
 pub mod row; // row.rt: a row of terms
 pub mod rows; // rows.rt: all rows

@@ -1,6 +1,7 @@
 // Request A3: the rows state, and its step, which keeps the columns of the rows and the scores of all divisors along. Both are lent to it.
 // Rests on `elimination_columns`, `elimination_kept`, `elimination_gained` and `elimination_step`.
 #![tactic(auto)]
+
 ghost use Rattle.std.specs.Prelude.{◌≡◌, ◌+◌, ◌<◌, ◌≤◌, length};
 ghost use Rattle.limits.specs.Limits.{max_pairs, term_symbols};
 ghost use Rattle.elimination_rules.specs.Elimination.{rows_after};

@@ -70,7 +70,7 @@ pub kept-end : (d : Divisor) (flags : List Bool) (r : Row) (i : ℕ) (done : Row
 unfolding kept_terms
 kept-end d flags r i done h = ap (λ (l : Row). done ++ kept_terms d flags l) (left_none r i h) ∙ append-nil done
 
--- ---- the new terms: those so far at the front of an array, and those of the co_divisors_lem that are left
+-- ---- the new terms: those so far at the front of an array, and those of the co-divisors that are left
 
 module _ (symbol : ℕ) (signs : Signs) (d : Divisor) (taken c : ℕ) (inside : c < positions) (out : List Term) (count : ℕ) (whole : Row)
     (so_far : take count out ++ lookup_terms_from symbol signs d c (drop c (bits_of taken positions)) ≡ whole) where

@@ -1,6 +1,7 @@
 // Document 01, "Elimination": the step of a given divisor, as `elimination_rules` has it, by masks of what is taken in each row.
 // Rests on `bits`, `elimination_masks` and `elimination_rows`.
 #![tactic(auto)]
+
 ghost use Rattle.std.specs.Prelude.{◌≡◌, ◌++◌, ◌<◌, ◌≤◌, length};
 ghost use Rattle.limits.specs.Limits.{positions, max_terms, term_symbols};
 ghost use Rattle.bits.specs.Bits.{bits_of};

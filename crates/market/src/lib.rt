@@ -1,6 +1,7 @@
 // Document 01, "Matrix Market files": read_matrix_market, from a text to a matrix record, refusals 17, 4, 19, 18 and 6. Rests on
 // `market_lines`, `market_forms` and `layout_matrix`.
 #![tactic(auto)]
+
 ghost use Rattle.std.specs.Prelude.{◌≡◌, ◌+◌, ◌*◌, ◌≤◌, length, get_or, drop};
 ghost use mathlib.Core.List.{flat_map};
 ghost use Rattle.limits.specs.Size.{SizeLimits};

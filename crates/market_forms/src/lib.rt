@@ -1,5 +1,6 @@
 // Document 01, "Matrix Market files": the size line and the entries of a file, as `market_rules` has them.
 #![tactic(auto)]
+
 ghost use Rattle.std.specs.Prelude.{◌≡◌, true, min};
 ghost use Rattle.market_rules.specs.Forms.{is_size, size_rows, size_columns, is_negative, is_entry, entry_value};
 ghost use Rattle.market_rules.specs.Market.{twos_complement};

@@ -56,6 +56,10 @@ module _ (text : List ℕ) (place found : ℕ) (within : place ≤ length text) 
   end-open h =
       ⊎_elim (λ c. absurd (omega (arith, at_feed, c.0, length-drop place text))) (λ c. omega (arith, at_feed, c.0, c.1)) (line_cases (drop place text))
 
+  pub end-within : found ≤ length text
+  end-within =
+      ⊎_elim (λ c. omega (arith, at_feed, c.0, length-drop place text)) (λ c. omega (arith, at_feed, c.0, length-drop place text)) (line_cases (drop place text))
+
 -- ---- the same bytes
 
 pub other_lengths : (xs ys : List ℕ) → (length xs ≡ length ys → ⊥) → false ≡ same xs ys

@@ -1,6 +1,7 @@
 // Document 01, "Reading, checking, running" and "Why a record was declined": checking a netlist against a matrix, refusals 1 to 5,
 // 7 to 12, 13, 14, as `netlist_rules` has it. Rests on `netlist_read`, `layout_head` and `layout_matrix`.
 #![tactic(auto)]
+
 ghost use Rattle.std.specs.Prelude.{◌≡◌, ◌*◌, ◌≤◌, ◌<◌};
 ghost use Rattle.limits.specs.Limits.{max_rows, max_columns, max_symbols};
 ghost use Rattle.layout_rules.specs.Matrix.{matrix_refusal, coefficients_from};

@@ -2,6 +2,7 @@
 // `netlist_rules` has it. Rests on `netlist_tests`, `layout_head`, `board_width` and `board_tables`, and sees nothing of the
 // elimination.
 #![tactic(auto)]
+
 ghost use Rattle.std.specs.Prelude.{◌≡◌, ◌≤◌, ◌<◌, length, take};
 ghost use Rattle.limits.specs.Limits.{max_rows, max_columns, max_operations, max_symbols};
 ghost use Rattle.limits.specs.Size.{SampleWidth};

@@ -2,6 +2,7 @@
 // as `netlist_rules` has it. Rests on `netlist_read`, on `layout_head`, and on `board_width` for a number's positive and negative
 // part.
 #![tactic(auto)]
+
 ghost use Rattle.std.specs.Prelude.{◌≡◌, map, ◌+◌, ◌≤◌, length, take};
 ghost use Rattle.limits.specs.Limits.{max_columns, max_symbols};
 ghost use Rattle.limits.specs.Size.{SampleWidth};

@@ -1,6 +1,7 @@
 // Document 01, "Why a record was declined": the tests of one record of a netlist, as `netlist_rules` has them. Rests on `layout_head`
 // and `layout_step`.
 #![tactic(auto)]
+
 ghost use Rattle.std.specs.Prelude.{◌≡◌};
 ghost use Rattle.netlist_rules.specs.Read.{record_refusal, head_in_range, width_in_range, head_refusal, operation_in_range, output_in_range, width_right};
 

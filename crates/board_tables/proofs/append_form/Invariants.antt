@@ -1,23 +1,13 @@
 -- `board_tables::append_form` meets its contract. What is left to write is the operation's row from column j on, and the rows below keep what
 -- they held. Assumes nothing.
-use mathlib.Core.Path.{◌≡◌, refl, sym, ap, ◌∙◌}
-use Prim.Native.Nat.{ℕ, suc, ◌+◌, ◌*◌, ◌-◌, ◌^◌, ◌≤◌, ◌<◌}
-use native.Mathlib.Omega.{arith}
-use native.Mathlib.Numerals.{add-one}
+use mathlib.Core.Path.{◌≡◌}
+use Prim.Native.Nat.{ℕ, ◌+◌, ◌*◌, ◌-◌, ◌≤◌, ◌<◌}
 use mathlib.Core.List.{List}
 use lib.IntN.{ℤ, pos}
-use lib.ListN.{get_or, set, drop}
-use lib.Seq.{sets, get_or-set_other}
-use lib.Signed.{mag}
-use mir.Syntax.{w64}
-use mir.Val.{SFits, to_z, of_z}
+use lib.ListN.{get_or, drop}
+use lib.Seq.{sets}
 use Rattle.limits.specs.Limits.{max_columns}
-use Rattle.layout_rules.specs.declared.Operation.{Operation}
-use Rattle.integers.proofs.Held.{is, held, call_result}
-use Rattle.board_rules.specs.Machine.{shifted, joined}
-use Rattle.board_rules.specs.Table.{table_coefficient, operation_coefficient, operation_row, Small, SmallForms}
-use Rattle.board_rules.proofs.FormLaws.{length-columns, columns_at}
-use Rattle.board_rules.proofs.TableLaws.{sets_next, sets_none}
+use Rattle.board_rules.specs.Table.{operation_row}
 use Rattle.board_tables.proofs.append_form.Given as goal
 
 -- the rows below the symbol's are as they were

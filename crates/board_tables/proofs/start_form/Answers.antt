@@ -1,12 +1,10 @@
 -- `board_tables::start_form` meets its contract. What is left to write is the unit vector from column j on. Assumes nothing.
 use mathlib.Core.Path.{◌≡◌, refl, sym, ◌∙◌}
-use mathlib.Core.Logic.{⊎_elim}
-use Prim.Native.Nat.{ℕ, ◌+◌, ◌*◌, ◌-◌, ◌≤◌, ◌<◌}
+use Prim.Native.Nat.{ℕ, ◌+◌, ◌*◌, ◌<◌}
 use native.Mathlib.Omega.{arith}
 use native.Mathlib.Numerals.{add-one}
 use lib.IntN.{pos}
-use lib.ListN.{get_or, drop}
-use lib.Seq.{sets}
+use lib.ListN.{get_or}
 use mir.Syntax.{w64}
 use mir.Val.{to_z}
 use Rattle.limits.specs.Limits.{max_columns}
@@ -27,7 +25,7 @@ none_is n symbol j v e d = rw d (sym (unit_other n symbol j (λ i. e (sym i))))
 
 pub loop-j-preserved : goal.loop-j-preserved
 loop-j-preserved c = let L = c in let s = L in
-    let v : to_z w64 c.if-j-symbol.c-bits ≡ get_or (unit s.args.n s.args.symbol) L.loop-j.j (pos 0) = (elim c.if-j-symbol.branch [ then-j-symbol w ↦ one-is s.args.n s.args.symbol L.loop-j.j c.if-j-symbol.c-bits w.if-j-symbol.true s.requires.0 w.c-is-bits | else-j-symbol w ↦ none_is s.args.n s.args.symbol L.loop-j.j c.if-j-symbol.c-bits w.0.false w.1 ]) in
+    let v : to_z w64 c.if-j-symbol.c-bits ≡ get_or (unit s.args.n s.args.symbol) L.loop-j.j (pos 0) = (elim c.if-j-symbol.branch [ then-j-symbol w ↦ one-is s.args.n s.args.symbol L.loop-j.j c.if-j-symbol.c-bits w.if-j-symbol.true s.requires.0 w.c-is-bits | else-j-symbol w ↦ none_is s.args.n s.args.symbol L.loop-j.j c.if-j-symbol.c-bits w.if-j-symbol.false w.c-is-bits ]) in
     rw add-one (
       omega arith,
       sets_next (pos 0) (unit s.args.n s.args.symbol) L.loop-j.table (s.args.symbol * max_columns) L.loop-j.j (to_z w64 c.if-j-symbol.c-bits)

@@ -1,13 +1,6 @@
 -- `board_tables::start_forms` meets its contract. What is left to write is the rows from i on. Assumes nothing.
-use mathlib.Core.Path.{◌≡◌, refl, ◌∙◌}
-use Prim.Native.Nat.{ℕ, suc, ◌*◌, ◌-◌, ◌≤◌, ◌<◌}
-use native.Mathlib.Omega.{arith}
-use native.Mathlib.Numerals.{add-one}
-use mathlib.Core.List.{List}
-use lib.IntN.{ℤ}
-use lib.Seq.{sets}
-use Rattle.limits.specs.Limits.{max_columns}
-use Rattle.board_rules.specs.Machine.{unit}
+use mathlib.Core.Path.{◌≡◌}
+use Prim.Native.Nat.{◌-◌, ◌≤◌}
 use Rattle.board_rules.specs.Table.{unit_rows_from}
 use Rattle.board_tables.proofs.start_forms.Given as goal
 

@@ -8,7 +8,7 @@ pub sums_of-sums-requires : goal.sums_of-sums-requires
 sums_of-sums-requires c = record { symbol_lt_max_symbols = c.requires.symbol_lt_max_symbols; symbol_bound = small-range_sums c.requires.small_range }
 
 pub width_of-requires : goal.width_of-requires
-width_of-requires c = let p = c.requires.1 in record { le_s = p.0; q_bound = rw c.sums_of-sums.ensures p.1.spread }
+width_of-requires c = record { le_s = c.requires.le_s; q_bound = rw c.sums_of-sums.ensures c.requires.small_range.spread }
 
 pub returns : goal.returns
 unfolding width

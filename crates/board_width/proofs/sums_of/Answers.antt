@@ -1,15 +1,15 @@
 -- `board_width::sums_of` meets its contract. What is left to sum is the columns from j on. Assumes nothing.
-use mathlib.Core.Path.{◌≡◌, refl, ap, ◌∙◌}
-use Prim.Native.Nat.{ℕ, suc, ◌+◌, ◌-◌, ◌≤◌, ◌<◌}
+use mathlib.Core.Path.{◌≡◌, refl, sym, subst, ap, ◌∙◌}
+use Prim.Native.Nat.{ℕ, suc, ◌+◌, ◌-◌, ◌<◌}
 use native.Mathlib.Omega.{arith}
 use native.Mathlib.Numerals.{add-one}
 use lib.IntN.{ℤ}
 use mir.Syntax.{w64}
 use mir.Val.{to_z, of_z}
-use Rattle.integers.proofs.Held.{is, held}
+use mir.ValLaws.{to_z-of_z}
 use Rattle.board_width.specs.declared.Sums.{Sums}
 use Rattle.board_rules.specs.Width.{positive_part, negative_part, positives, negatives}
-use Rattle.board_rules.specs.Table.{table_coefficient, each_column_from, each_column}
+use Rattle.board_rules.specs.Table.{table_coefficient, each_column_from}
 use Rattle.board_width.proofs.sums_of.Goals as goal
 use Rattle.board_width.proofs.sums_of.Lts
 use Rattle.board_width.proofs.sums_of.Reads
@@ -46,7 +46,7 @@ module _ (c : Lts.After-positive_part Tie.the-claims Reads.Pre Reads.Post goal.t
   f = table_coefficient L.args.table.now L.args.symbol
 
   read : to_z w64 (of_z w64 (f L.loop-j.j)) ≡ f L.loop-j.j
-  read = is (held (record { sfits = c.c-1.given }))
+  read = to_z-of_z w64 (f L.loop-j.j) (record { sfits = c.c-1.given })
 
   is_positive : c.positive_part-positives.result ≡ positive_part (f L.loop-j.j)
   is_positive = c.positive_part-positives.ensures ∙ ap positive_part read
@@ -76,3 +76,10 @@ ends {p} {r} {e} d h = omega arith
 
 both : {p p' q q' : ℕ} → p ≡ p' → q ≡ q' → ◌≡◌ {A = Sums} record { positives = p; negatives = q } record { positives = p'; negatives = q' }
 both d e = rw (d, e) refl
+
+pub returns : goal.returns
+returns c =
+    let i = c.loop-j.invariant in
+    let e : c.loop-j.j ≡ c.args.n = omega arith in
+    let f = table_coefficient c.args.table.now c.args.symbol in
+    both (ends (subst (λ (k : ℕ). positives (each_column_from k (c.args.n - k) f) ≡ 0) (sym e) (none-positives f c.args.n)) i.1.0) (ends (subst (λ (k : ℕ). negatives (each_column_from k (c.args.n - k) f) ≡ 0) (sym e) (none-negatives f c.args.n)) i.1.1)

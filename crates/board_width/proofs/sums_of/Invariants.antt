@@ -1,14 +1,7 @@
 -- `board_width::sums_of` meets its contract. What is left to sum is the columns from j on. Assumes nothing.
-use mathlib.Core.Path.{◌≡◌, refl, ap, ◌∙◌}
-use Prim.Native.Nat.{ℕ, suc, ◌+◌, ◌-◌, ◌≤◌, ◌<◌}
-use native.Mathlib.Omega.{arith}
-use native.Mathlib.Numerals.{add-one}
-use lib.IntN.{ℤ}
-use mir.Syntax.{w64}
-use mir.Val.{to_z, of_z}
-use Rattle.integers.proofs.Held.{is, held}
-use Rattle.board_width.specs.declared.Sums.{Sums}
-use Rattle.board_rules.specs.Width.{positive_part, negative_part, positives, negatives}
+use mathlib.Core.Path.{◌≡◌}
+use Prim.Native.Nat.{◌+◌, ◌-◌, ◌≤◌}
+use Rattle.board_rules.specs.Width.{positives, negatives}
 use Rattle.board_rules.specs.Table.{table_coefficient, each_column_from, each_column}
 use Rattle.board_width.proofs.sums_of.Given as goal
 

@@ -1,5 +1,5 @@
 -- `byte_slices::find` meets its contract. Assumes nothing.
-use Rattle.std.proofs.Common.{◌≡◌, ◌+◌, ◌<◌, ◌≤◌, ◌∷◌, ℕ, suc, List, [], Bool, length, take, drop, get_or, sym, ap, ◌∙◌, arith, add-one, length-take, get_or-take, drop-cons, drop_of_length-le, eq-eqb, ne_eqb}
+use Rattle.std.proofs.Common.{◌≡◌, ◌+◌, ◌<◌, ◌≤◌, ◌∷◌, ℕ, suc, List, Bool, length, take, drop, get_or, sym, ap, ◌∙◌, arith, add-one, length-take, get_or-take, drop-cons, drop_of_length-le, eq-eqb, ne_eqb}
 use Rattle.byte_slices.specs.Search.{index_of, index_after, slice}
 use Rattle.byte_slices.proofs.find.Goals as goal
 

@@ -1,5 +1,5 @@
 -- None of the bytes from start on that were passed is the wanted one.
-use Rattle.std.proofs.Common.{◌≡◌, ◌+◌, ◌≤◌, length}
+use Rattle.std.proofs.Common.{◌≡◌, ◌+◌}
 use Rattle.byte_slices.specs.Search.{index_of, slice}
 use Rattle.byte_slices.proofs.find.Given as goal
 

@@ -20,7 +20,7 @@ returns-then-size_outside c =
     record { value = c.refused.ensures ∙ both.0; buffer_after = both.1 }
 
 -- sizes within the limits
-module _ (c : Lts.Else1 Tie.the-claims Reads.Pre Reads.Post) where
+module _ (c : Lts.Else1 Tie.the-claims Reads.Pre Reads.Post Tie.handed_clauses) where
   abbrev m : ℕ
   m = c.args.m
 

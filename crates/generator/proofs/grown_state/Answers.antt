@@ -5,4 +5,4 @@ use Rattle.generator.proofs.grown_state.Goals as goal
 
 pub returns : goal.returns
 unfolding grown
-returns c = c.wrapping_add_u32.ensures
+returns c = c.wrapping_add_u32.ensures.value

@@ -5,7 +5,7 @@ use Rattle.text.proofs.Wrote.{wrote_more}
 use Rattle.listing.proofs.write_listing.Goals as goal
 
 pub due_length-head-requires : goal.due_length-head-requires
-due_length-head-requires c = let s = c in omega (arith, s.requires.outputs_in_bounds.0, length-due s.args.netlist.now)
+due_length-head-requires c = let s = c in omega (arith, s.requires.outputs_in_bounds, length-due s.args.netlist.now)
 
 pub returns : goal.returns
 returns c =

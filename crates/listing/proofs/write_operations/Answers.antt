@@ -18,7 +18,7 @@ loop-k-init c = let a = c.args in (listed_start operation_line a.inputs (first_o
 pub operation_place-place-requires : goal.operation_place-place-requires
 operation_place-place-requires c =
     let s = c in
-    (omega (arith, s.requires.head_value.0.0, length-due s.args.netlist.now), omega arith)
+    (omega (arith, s.requires.head_value.0, length-due s.args.netlist.now), omega arith)
 
 pub write_operation-at-requires : goal.write_operation-at-requires
 write_operation-at-requires c = simp (length-take, length-drop) (omega arith)
@@ -30,11 +30,11 @@ loop-k-preserved c =
     let l = c.loop-k in
     let h = c.loop-k-test.true in
     let place = c.operation_place-place in
-    let read = c.operation_at_lem in
+    let read = c.operation_at-operation in
     let wrote = c.write_operation-at in
     let operation = operation_at a.netlist.now in
     let there : read.result ≡ operation l.k =
-    read.ensures ∙ ap (λ (p : ℕ). operation_of (payload_of a.netlist.now p operation_length)) (place.ensures ∙ ap (λ (h : ℕ). operation_place h l.k) s.requires.head_value.0.0) in (
+    read.ensures ∙ ap (λ (p : ℕ). operation_of (payload_of a.netlist.now p operation_length)) (place.ensures ∙ ap (λ (h : ℕ). operation_place h l.k) s.requires.head_value.0) in (
       listed_more operation_line a.inputs (first_operations a.netlist.now a.operations) a.text.now l.invariant.0
           (omega (arith, h, length-first operation a.operations))
           (get_d_first operation a.operations l.k _ h ∙ sym there)

@@ -12,15 +12,9 @@ copy-requires c = simp (length-take, length-drop) (omega arith)
 
 pub returns : goal.returns
 returns c =
-    let s = c in
     let unclosed = c.write_unclosed_operand-at in
-    let end = c.copy in (
-      wrote_as (operand_parts s.args.inputs s.args.symbol s.args.shift)
-          (wrote_more unclosed.ensures.wrote (wrote_copy _ (ascii ")") _ _ end.ensures.count end.ensures.copied)),
-      omega (arith, unclosed.ensures.upper_bound, end.ensures.count),
-    record { wrote = returns c =
-    let s = c in
-    let unclosed = c.write_unclosed_operand-at in
-    let end = c.copy in (
-      wrote_as (operand_parts s.args.inputs s.args.symbol s.args.shift)
-          (wrote_more unclosed.ensures.wrote (wrote_copy _ (ascii ")") _ _ end.ensures.count end.ensures.copied)); upper_bound = omega (arith, unclosed.ensures.upper_bound, end.ensures.count) }
+    let end = c.copy in record {
+      wrote = wrote_as (operand_parts c.args.inputs c.args.symbol c.args.shift)
+          (wrote_more unclosed.ensures.wrote (wrote_copy _ (ascii ")") _ _ end.ensures.count end.ensures.copied));
+      upper_bound = omega (arith, unclosed.ensures.upper_bound, end.ensures.count);
+    }

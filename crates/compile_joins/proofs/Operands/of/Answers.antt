@@ -1,10 +1,10 @@
 -- `compile_joins::Operands::of` meets its contract. Assumes nothing.
 use mathlib.Core.Path.{◌≡◌, refl, sym, ap, ◌∙◌}
-use mathlib.Core.Logic.{⊎_elim}
 use mathlib.Core.Bool.{false, not, ◌&&◌}
 use Rattle.term.specs.declared.Term.{Term}
 use Rattle.sum_rules.specs.Shallowest.{order_of_operands, first_operand, second_operand}
 use Rattle.compile_joins.proofs.Operands.of.Goals as goal
+use Rattle.compile_joins.proofs.Operands.of.Goals.{else-negative-via-then-negative+else-not-negative, else-negative-via-else-negative}
 
 -- the two keep their order
 kept : (t u : Term) → order_of_operands t u ≡ false → (t ≡ first_operand order_of_operands t u) × (u ≡ second_operand order_of_operands t u)
@@ -14,8 +14,9 @@ pub returns : goal.returns
 returns c =
     let first = c.negative in
     let args = c.args in
-    kept args.t args.u
-    (⊎_elim
-    (λ minus. rw (sym first.ensures ∙ minus.0.taken) (ap not (sym minus.1.ensures) ∙ minus.2.left))
-    (λ plus. ap (λ b. b && not args.u.negative) (sym first.ensures ∙ plus.left))
-    c.else-negative.branch)
+    let same : order_of_operands args.t args.u ≡ false = elim c.else-negative.branch [
+      | else-negative-via-then-negative+else-not-negative w ↦ rw (sym first.ensures ∙ w.if-negative.true) (ap not (sym w.negative-then-negative.ensures ∙ w.if-not-negative.false))
+      | else-negative-via-else-negative w ↦ ap (λ b. b && not args.u.negative) (sym first.ensures ∙ w.if-negative.false)
+    ] in
+    let both = kept args.t args.u same in
+    record { first_value = both.0; second_value = both.1 }

@@ -1,11 +1,6 @@
 -- `elimination_masks::columns::differ` meets its contract. Assumes nothing.
-use Prim.Native.Nat.{◌-◌, ◌≤◌}
-use mathlib.Core.Path.{◌≡◌, refl, ◌∙◌}
-use mathlib.Core.Bool.{not, ◌||◌}
+use mathlib.Core.Path.{refl, ◌∙◌}
 use native.Mathlib.Omega.{arith}
-use lib.Dec.{eqb}
-use Rattle.limits.specs.Limits.{max_rows}
-use Rattle.elimination_masks.specs.Masks.{masks_differ_from, masks_differ}
 use Rattle.elimination_masks.proofs.Turns.{differ_next, differ-end}
 use Rattle.elimination_masks.proofs.columns.differ.Goals as goal
 
@@ -17,7 +12,7 @@ loop-i-preserved c =
     let h = c in
     let a = h.args in (
       omega arith,
-      differ_next a.d a.x a.y a.x-after a.y-after h.loop-i.i h.loop-i.changed c.occurrences_in-before.result c.occurrences_in-after.result (omega arith)
+      differ_next a.d a.x a.y a.x_after a.y_after h.loop-i.i h.loop-i.changed c.occurrences_in-before.result c.occurrences_in-after.result (omega arith)
           c.occurrences_in-before.ensures c.occurrences_in-after.ensures
           ∙ h.loop-i.invariant.1,
     )
@@ -26,4 +21,4 @@ pub returns : goal.returns
 returns c =
     let h = c in
     let a = h.args in
-    differ-end a.d a.x a.y a.x-after a.y-after h.loop-i.i h.loop-i.changed (omega arith) ∙ h.loop-i.invariant.1
+    differ-end a.d a.x a.y a.x_after a.y_after h.loop-i.i h.loop-i.changed (omega arith) ∙ h.loop-i.invariant.1

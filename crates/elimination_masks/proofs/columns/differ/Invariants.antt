@@ -1,12 +1,10 @@
 -- `elimination_masks::columns::differ` meets its contract. Assumes nothing.
 use Prim.Native.Nat.{◌-◌, ◌≤◌}
-use mathlib.Core.Path.{◌≡◌, refl, ◌∙◌}
+use mathlib.Core.Path.{◌≡◌}
 use mathlib.Core.Bool.{not, ◌||◌}
-use native.Mathlib.Omega.{arith}
 use lib.Dec.{eqb}
 use Rattle.limits.specs.Limits.{max_rows}
 use Rattle.elimination_masks.specs.Masks.{masks_differ_from, masks_differ}
-use Rattle.elimination_masks.proofs.Turns.{differ_next, differ-end}
 use Rattle.elimination_masks.proofs.columns.differ.Given as goal
 
 abbrev pub invariant-loop-i : goal.invariant-loop-i

@@ -1,12 +1,7 @@
 -- `elimination_masks::columns::none_among` meets its contract. Assumes nothing.
-use Prim.Native.Nat.{◌-◌, ◌≤◌}
-use mathlib.Core.Path.{◌≡◌, refl, ◌∙◌}
-use mathlib.Core.Bool.{◌&&◌}
+use mathlib.Core.Path.{refl, ◌∙◌}
 use native.Mathlib.Omega.{arith}
-use lib.Dec.{eqb}
-use Rattle.limits.specs.Limits.{max_rows}
 use lib.ListN.{get_or}
-use Rattle.elimination_masks.specs.Masks.{none_among_from, none_among}
 use Rattle.elimination_masks.proofs.Turns.{none_next, none_end}
 use Rattle.elimination_masks.proofs.columns.none_among.Goals as goal
 
@@ -18,11 +13,11 @@ loop-i-preserved c =
     let h = c in
     let a = h.args in (
       omega arith,
-      none_next a.d a.x a.y h.loop-i.i (λ i. get_or a.t3 i 0) h.loop-i.met c.occurrences_in-occurring.result (omega arith) c.occurrences_in-occurring.ensures ∙ h.loop-i.invariant.1,
+      none_next a.d a.x a.y h.loop-i.i (λ i. get_or a.asked i 0) h.loop-i.met c.occurrences_in-occurring.result (omega arith) c.occurrences_in-occurring.ensures ∙ h.loop-i.invariant.1,
     )
 
 pub returns : goal.returns
 returns c =
     let h = c in
     let a = h.args in
-    none_end a.d a.x a.y h.loop-i.i (λ i. get_or a.t3 i 0) h.loop-i.met (omega arith) ∙ h.loop-i.invariant.1
+    none_end a.d a.x a.y h.loop-i.i (λ i. get_or a.asked i 0) h.loop-i.met (omega arith) ∙ h.loop-i.invariant.1

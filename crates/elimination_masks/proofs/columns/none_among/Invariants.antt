@@ -1,13 +1,11 @@
 -- `elimination_masks::columns::none_among` meets its contract. Assumes nothing.
 use Prim.Native.Nat.{◌-◌, ◌≤◌}
-use mathlib.Core.Path.{◌≡◌, refl, ◌∙◌}
+use mathlib.Core.Path.{◌≡◌}
 use mathlib.Core.Bool.{◌&&◌}
-use native.Mathlib.Omega.{arith}
 use lib.Dec.{eqb}
 use Rattle.limits.specs.Limits.{max_rows}
 use lib.ListN.{get_or}
 use Rattle.elimination_masks.specs.Masks.{none_among_from, none_among}
-use Rattle.elimination_masks.proofs.Turns.{none_next, none_end}
 use Rattle.elimination_masks.proofs.columns.none_among.Given as goal
 
 abbrev pub invariant-loop-i : goal.invariant-loop-i

@@ -1,10 +1,8 @@
 -- `elimination_masks::columns::score_all` meets its contract. Assumes nothing.
-use Prim.Native.Nat.{◌+◌, ◌-◌, ◌*◌, ◌≤◌}
-use mathlib.Core.Path.{◌≡◌, sym, ap, ◌∙◌}
+use mathlib.Core.Path.{sym, ap, ◌∙◌}
 use lib.Count.{ones, ones-le}
 use native.Mathlib.Omega.{arith}
-use Rattle.limits.specs.Limits.{max_rows, positions}
-use Rattle.elimination_masks.specs.Masks.{mask_score_from, mask_score}
+use Rattle.limits.specs.Limits.{positions}
 use Rattle.elimination_masks.proofs.Turns.{taken-all, score_next, score-end}
 use Rattle.std.proofs.Common.{rules}
 use Rattle.elimination_masks.proofs.columns.score_all.Goals as goal

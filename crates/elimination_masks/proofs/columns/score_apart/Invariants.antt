@@ -1,12 +1,8 @@
 -- `elimination_masks::columns::score_apart` meets its contract. Assumes nothing.
-use Prim.Native.Nat.{ℕ, ◌+◌, ◌-◌, ◌*◌, ◌≤◌}
-use mathlib.Core.Path.{◌≡◌, sym, ap, ◌∙◌}
-use lib.Count.{ones, ones-le}
-use mathlib.Core.Logic.{⊎_elim}
-use native.Mathlib.Omega.{arith}
+use Prim.Native.Nat.{◌+◌, ◌-◌, ◌*◌, ◌≤◌}
+use mathlib.Core.Path.{◌≡◌}
 use Rattle.limits.specs.Limits.{max_rows, positions}
-use Rattle.elimination_masks.specs.Masks.{apart_mask, mask_score_from, mask_score}
-use Rattle.elimination_masks.proofs.Turns.{ones_none, apart_none, taken-apart, score_next, score-end}
+use Rattle.elimination_masks.specs.Masks.{mask_score_from, mask_score}
 use Rattle.elimination_masks.proofs.columns.score_apart.Given as goal
 
 abbrev pub invariant-loop-i : goal.invariant-loop-i

@@ -1,11 +1,7 @@
 -- `elimination_masks::columns::taken` meets its contract. Assumes nothing.
-use Prim.Native.Nat.{ℕ, ◌-◌, ◌≤◌}
-use mathlib.Core.Path.{refl, sym, ap, ◌∙◌}
-use mathlib.Core.Logic.{⊎_elim}
-use native.Mathlib.Omega.{arith}
-use Rattle.limits.specs.Limits.{max_rows, positions}
-use Rattle.elimination_masks.specs.Masks.{apart_mask}
-use Rattle.elimination_masks.proofs.Turns.{taken-all, taken-apart, TakenBefore, taken_next}
+use Prim.Native.Nat.{◌-◌, ◌≤◌}
+use Rattle.limits.specs.Limits.{max_rows}
+use Rattle.elimination_masks.proofs.Turns.{TakenBefore}
 use Rattle.elimination_masks.proofs.columns.taken.Given as goal
 
 abbrev pub invariant-loop-i : goal.invariant-loop-i

@@ -1,9 +1,7 @@
 -- `elimination_masks::columns::without` meets its contract. Assumes nothing.
-use Prim.Native.Nat.{◌-◌, ◌≤◌}
 use native.Mathlib.Omega.{arith}
-use Rattle.limits.specs.Limits.{max_rows}
 use Rattle.elimination_masks.specs.Masks.{without_mask}
-use Rattle.elimination_masks.proofs.Turns.{EachBefore, each_next}
+use Rattle.elimination_masks.proofs.Turns.{each_next}
 use Rattle.std.proofs.Common.{rules}
 use Rattle.elimination_masks.proofs.columns.without.Goals as goal
 
@@ -15,8 +13,8 @@ loop-i-preserved c =
     let h = c in
     let a = h.args in (
       omega arith,
-      each_next (λ mask gone. without_mask mask gone a.e) h.loop-i.i a.t1 a.t2 h.loop-i.out (omega arith) h.loop-i.invariant.1,
+      each_next (λ mask gone. without_mask mask gone a.e) h.loop-i.i a.x a.taken h.loop-i.out (omega arith) h.loop-i.invariant.1,
     )
 
 pub returns : goal.returns
-returns c = c.loop-i.invariant.1.1 i (omega arith)
+returns c i h = c.loop-i.invariant.1.1 i (omega arith)

@@ -1,9 +1,8 @@
 -- `elimination_masks::columns::without` meets its contract. Assumes nothing.
 use Prim.Native.Nat.{◌-◌, ◌≤◌}
-use native.Mathlib.Omega.{arith}
 use Rattle.limits.specs.Limits.{max_rows}
 use Rattle.elimination_masks.specs.Masks.{without_mask}
-use Rattle.elimination_masks.proofs.Turns.{EachBefore, each_next}
+use Rattle.elimination_masks.proofs.Turns.{EachBefore}
 use Rattle.elimination_masks.proofs.columns.without.Given as goal
 
 abbrev pub invariant-loop-i : goal.invariant-loop-i

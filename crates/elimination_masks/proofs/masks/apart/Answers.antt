@@ -1,12 +1,11 @@
 -- `elimination_masks::masks::apart` meets its contract. Assumes nothing.
-use Prim.Native.Nat.{◌-◌, ◌≤◌}
 use mathlib.Core.Path.{◌≡◌, sym, ap, ◌∙◌}
-use mathlib.Core.Logic.{⊎_elim}
 use native.Mathlib.Omega.{arith}
 use Rattle.limits.specs.Limits.{positions}
 use Rattle.elimination_masks.specs.Masks.{apart_mask}
 use Rattle.elimination_masks.proofs.Turns.{apart-start, bit_fits, apart-taken, apart_left}
 use Rattle.elimination_masks.proofs.masks.apart.Goals as goal
+use Rattle.elimination_masks.proofs.masks.apart.Goals.{else-takes, then-takes}
 
 pub loop-c-init : goal.loop-c-init
 loop-c-init c = (omega arith, sym (apart-start c.args.occurrences c.args.distance))
@@ -23,10 +22,7 @@ loop-c-preserved c =
     let a = h.args in
     let found = c.takes.ensures in (
       omega arith,
-      ⊎_elim
-          (λ w. w.1 ∙ apart-taken a.occurrences a.distance h.loop-c.c h.loop-c.taken h.loop-c.invariant.1 (omega arith) (sym found ∙ w.0.taken))
-          (λ w. w.1 ∙ apart_left a.occurrences a.distance h.loop-c.c h.loop-c.taken h.loop-c.invariant.1 (sym found ∙ w.0.left))
-          c.if-takes.branch,
+      (elim c.if-takes.branch [ then-takes w ↦ w.taken-is ∙ apart-taken a.occurrences a.distance h.loop-c.c h.loop-c.taken h.loop-c.invariant.1 (omega arith) (sym found ∙ w.if-takes.true) | else-takes w ↦ w.taken-is ∙ apart_left a.occurrences a.distance h.loop-c.c h.loop-c.taken h.loop-c.invariant.1 (sym found ∙ w.if-takes.false) ]),
     )
 
 pub returns : goal.returns

@@ -1,11 +1,8 @@
 -- `elimination_masks::masks::apart` meets its contract. Assumes nothing.
 use Prim.Native.Nat.{◌-◌, ◌≤◌}
-use mathlib.Core.Path.{◌≡◌, sym, ap, ◌∙◌}
-use mathlib.Core.Logic.{⊎_elim}
-use native.Mathlib.Omega.{arith}
+use mathlib.Core.Path.{◌≡◌}
 use Rattle.limits.specs.Limits.{positions}
 use Rattle.elimination_masks.specs.Masks.{apart_mask}
-use Rattle.elimination_masks.proofs.Turns.{apart-start, bit_fits, apart-taken, apart_left}
 use Rattle.elimination_masks.proofs.masks.apart.Given as goal
 
 abbrev pub invariant-loop-c : goal.invariant-loop-c

@@ -1,0 +1,18 @@
+-- `elimination_kept::pick::pick` meets its contract. Assumes nothing.
+use Rattle.elimination_kept.proofs.TableLaws.{table_from}
+use Rattle.elimination_kept.specs.Table.{table_of, scored_of, Ranked}
+use Rattle.kept_rules.specs.Kept.{best_entry}
+use Rattle.elimination_rules.specs.Rank.{lower_rank}
+use Rattle.elimination_rules.specs.Elimination.{no_pairs}
+use mathlib.Core.Path.{◌≡◌}
+use Prim.Native.Nat.{◌-◌, ◌≤◌}
+use Rattle.elimination_kept.proofs.pick.pick.Given as goal
+
+abbrev pub invariant-loop-i : goal.invariant-loop-i
+invariant-loop-i l =
+    (l.i ≤ l.kept)
+    × Ranked l.depths l.best
+    × (best_entry (lower_rank l.depths) (scored_of l.best) (table_from l.keys l.scores l.i l.kept) ≡ best_entry (lower_rank l.depths) no_pairs (table_of l.keys l.scores l.kept))
+
+abbrev pub decreases-loop-i : goal.decreases-loop-i
+decreases-loop-i l = l.kept - l.i
