@@ -1,6 +1,7 @@
 // Document 01, "Programs": the text of check-bank for a matrix record and a netlist, `accepted` or the line of the refusal. Rests on
 // `netlist_check` and `text`.
 #![tactic(auto)]
+
 ghost use Rattle.std.specs.Prelude.{◌≤◌, length};
 ghost use Rattle.text.specs.Text.{longest_refused_line};
 ghost use Rattle.text.specs.Wrote.{Wrote, PrefixLength};

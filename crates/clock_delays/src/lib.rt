@@ -1,6 +1,7 @@
 // Document 01, "One vector every clock": the longest delay of each symbol of a netlist, the places of the delays in the store, the symbols
 // with delays, and the total of the registers, as `clock_rules` has them. Rests on `netlist_read` and on `layout_head`.
 #![tactic(auto)]
+
 ghost use Rattle.std.specs.Prelude.{◌≡◌, [], ◌∷◌, ◌-◌, ◌≤◌, ◌<◌, length, get_or};
 ghost use Rattle.limits.specs.Limits.{max_symbols};
 ghost use Rattle.layout_rules.specs.Places.{head_length_in, head_at, netlist_in};

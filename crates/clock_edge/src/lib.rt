@@ -1,6 +1,7 @@
 // Document 01, "One vector every clock": one clock of a netlist's clocked form, in the lent store, as `clock_rules` has it. The outputs are
 // read and the operations' values worked out before anything in the store changes. Rests on `board_tables`.
 #![tactic(auto)]
+
 ghost use Rattle.std.specs.Prelude.{◌≡◌, ◌++◌, ◌+◌, ◌≤◌, ◌<◌, length, take};
 ghost use Rattle.std.proofs.lemmas.List.Edits.{sets};
 ghost use Rattle.limits.specs.Limits.{max_operations, max_symbols};

@@ -1,6 +1,7 @@
 // Document 01, "Elimination" and "Netlist and board machine": the operations and outputs of a matrix, without widths, and what
 // compile counts. Rests on `elimination_state`, `compile_sums` and `layout_matrix`.
 #![tactic(auto)]
+
 pub mod rows; // rows.rt: the rows of a matrix
 pub mod eliminated; // eliminated.rt: elimination
 

@@ -1,6 +1,7 @@
 // Document 01, "Programs": what generate-bank writes for m, n and a seed, the record's bytes or the line of the refusal. Rests on
 // `generator` and `text`.
 #![tactic(auto)]
+
 ghost use Rattle.std.specs.Prelude.{◌≤◌, length};
 ghost use Rattle.layout_rules.specs.Matrix.{longest_record};
 ghost use Rattle.text.specs.Wrote.{Wrote, PrefixLength};

@@ -1,6 +1,7 @@
 // Document 01, "Programs": the text of run-bank for a netlist and the bytes of samples, one output a line, in decimal. Rests on `limits`,
 // `netlist_run` and `text`, and on `board_width` for a number's positive and negative part.
 #![tactic(auto)]
+
 pub mod samples; // samples.rt: run, with the samples given as bytes
 
 ghost use Rattle.std.specs.Prelude.{◌≡◌, ◌*◌, ◌-◌, ◌≤◌, pos, length, replicate};

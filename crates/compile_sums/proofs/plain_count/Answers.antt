@@ -1,6 +1,6 @@
 -- `compile_sums::plain_count` meets its contract. Assumes nothing.
 use native.Mathlib.Omega.{arith}
-use Prim.Native.Nat.{suc, ◌+◌, ◌-◌, ◌≤◌, ◌<◌, pred}
+use Prim.Native.Nat.{suc, ◌+◌, ◌<◌, pred}
 use mathlib.Core.Path.{◌≡◌, ap, ◌∙◌}
 use mathlib.Core.List.{[]}
 use native.Mathlib.Numerals.{add-one}

@@ -1,13 +1,9 @@
 -- `compile_sums::plain_count` meets its contract. Assumes nothing.
-use native.Mathlib.Omega.{arith}
-use Prim.Native.Nat.{suc, ◌+◌, ◌-◌, ◌≤◌, ◌<◌, pred}
-use mathlib.Core.Path.{◌≡◌, ap, ◌∙◌}
-use mathlib.Core.List.{[]}
-use native.Mathlib.Numerals.{add-one}
-use lib.ListN.{length, get_or, drop}
-use Rattle.elimination_rules.specs.Rows.{Row, plain_count}
+use Prim.Native.Nat.{◌+◌, ◌-◌, ◌≤◌}
+use mathlib.Core.Path.{◌≡◌}
+use lib.ListN.{drop}
+use Rattle.elimination_rules.specs.Rows.{plain_count}
 use Rattle.elimination_rows.specs.State.{rows_terms}
-use Rattle.compile_sums.proofs.SumLaws.{plain_next, plain_end}
 use Rattle.compile_sums.proofs.plain_count.Given as goal
 
 abbrev pub invariant-loop-i : goal.invariant-loop-i

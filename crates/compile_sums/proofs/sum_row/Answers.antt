@@ -18,7 +18,7 @@ use Rattle.sum_rules.specs.Placing.{placing_joins_of}
 use Rattle.sum_rules.specs.SumDepth.{EachTerm}
 use Rattle.sum_rules.proofs.Sums.{length_permuted}
 use Rattle.sum_rules.proofs.TermOrder.{in_order_permuted}
-use Rattle.compile_sums.proofs.JoinLaws.{Below, each_below, BeforeJoin, before-first, length-first, first-sum, none_left, one_left, room, operands_within, others-within, operand-depths, before_next, two_at_end, one_at_end, put_at_end}
+use Rattle.compile_sums.proofs.JoinLaws.{Below, each_below, before-first, length-first, first-sum, none_left, one_left, room, operands_within, others-within, operand-depths, before_next, two_at_end, one_at_end, put_at_end}
 use Rattle.std.proofs.Common.{rules}
 use Rattle.compile_sums.proofs.sum_row.Goals as goal
 use Rattle.compile_sums.proofs.sum_row.Lts
@@ -112,16 +112,16 @@ module _ (c : Lts.In-loop Tie.the-claims Reads.Pre Reads.Post goal.the-invariant
   columns-few = given.requires.n_le_max_columns.0
 
   made-few : length os < max_operations
-  made-few = room here.loop-at.inv.4 columns-few (few here.before) t u others two
+  made-few = room here.loop-at.invariant.4 columns-few (few here.before) t u others two
 
   count-is : here.loop-at.count ≡ length os
-  count-is = omega (arith, length-take here.loop-at.count here.loop-at.list, here.loop-at.inv.2, here.loop-at.inv.1)
+  count-is = omega (arith, length-take here.loop-at.count here.loop-at.list, here.loop-at.invariant.2, here.loop-at.invariant.1)
 
   within : ((join_of order_of_operands t u).a < max_symbols) × ((join_of order_of_operands t u).b < max_symbols)
-  within = operands_within here.loop-at.inv.4 columns-few (few here.before) t u others two
+  within = operands_within here.loop-at.invariant.4 columns-few (few here.before) t u others two
 
   fit : (get_or here.loop-at.depths (join_of order_of_operands t u).a 0 < 65535) × (get_or here.loop-at.depths (join_of order_of_operands t u).b 0 < 65535)
-  fit = operand-depths here.loop-at.inv.4 columns-few (few here.before) t u others two
+  fit = operand-depths here.loop-at.invariant.4 columns-few (few here.before) t u others two
 
   symbol-within : given.args.n + here.loop-at.count < max_symbols
   symbol-within = omega (arith, made-few, count-is, columns-few)
@@ -170,8 +170,8 @@ joined_term-requires c = symbol-within (join c.before.before)
 pub place-terms-requires : goal.place-terms-requires
 place-terms-requires c =
     let h = join c.before.before.before in
-    let there : (here h).loop-at.at + 1 < max_terms = omega (arith, h.loop-at-test.taken) in
-    rw c.joined_term.ensures record { at_lt_max_terms = (there, symbol-within h); each_term = others-within (here h).loop-at.inv.4 (columns-few h) (few (here h).before) (t h) (u h) (others h) (two h) }
+    let there : (here h).loop-at.at + 1 < max_terms = omega (arith, h.loop-at-test.true) in
+    rw c.joined_term.ensures record { at_lt_max_terms = (there, symbol-within h); each_term = others-within (here h).loop-at.invariant.4 (columns-few h) (few (here h).before) (t h) (u h) (others h) (two h) }
 
 pub loop-at-preserved : goal.loop-at-preserved
 loop-at-preserved c =
@@ -190,13 +190,13 @@ loop-at-preserved c =
     let new : joined.joined_term.result ≡ joined_term (n + length (os h)) (operand o.before.before.before.before) = joined.joined_term.ensures ∙ ap₂ joined_term symbol (operand-is o.before.before.before.before) in
     let left = put_at_end (terms h) (at h + 1) (placed _ _ (others h)) c.place-terms.result (omega arith) c.place-terms.ensures
     ∙ ap₂ (λ (ds : List ℕ) (x : Term). placed ds x (others h)) table new in
-    let all = filled_more list count max_operations L.loop-at.inv.2 o.join_operation-o.result (omega (arith, made-few h, count-is h))
+    let all = filled_more list count max_operations L.loop-at.invariant.2 o.join_operation-o.result (omega (arith, made-few h, count-is h))
     ∙ ap (λ (p : Operation). os h ++ (p ∷ [])) (operation-is o.before.before.before.before) in (
       omega arith,
       omega (arith, made-few h, count-is h),
-      length-set list count o.join_operation-o.result ∙ L.loop-at.inv.2,
+      length-set list count o.join_operation-o.result ∙ L.loop-at.invariant.2,
       search rules,
-      before_next L.loop-at.inv.4 (columns-few h) (few L.before) (t h) (u h) (others h) (two h) _ _ _ all table left,
+      before_next L.loop-at.invariant.4 (columns-few h) (few L.before) (t h) (u h) (others h) (two h) _ _ _ all table left,
     )
 
 -- the row's sum, from what the loop began with

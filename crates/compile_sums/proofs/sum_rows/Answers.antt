@@ -1,7 +1,7 @@
 -- `compile_sums::sum_rows` meets its contract. Assumes nothing.
 use native.Mathlib.Omega.{arith}
 use native.Mathlib.Numerals.{add-one}
-use Prim.Native.Nat.{◌-◌, ◌≤◌, ◌<◌}
+use Prim.Native.Nat.{◌<◌}
 use mathlib.Core.Path.{ap, ◌∙◌}
 use mathlib.Core.List.{[], ◌∷◌, ◌++◌}
 use lib.ListN.{length}
@@ -10,7 +10,7 @@ use Rattle.elimination_rules.specs.Rows.{Row}
 use Rattle.elimination_rows.specs.State.{rows_terms}
 use Rattle.compile_lists.specs.Lists.{operations_list, outputs_list}
 use Rattle.sum_rules.specs.Shallowest.{order_of_operands, depths_of, sum_of}
-use Rattle.compile_sums.proofs.SumLaws.{BeforeRow, before-rows, rows-ended, row_room, row_below, before_next_row}
+use Rattle.compile_sums.proofs.SumLaws.{before-rows, rows-ended, row_room, row_below, before_next_row}
 use Rattle.compile_sums.proofs.sum_rows.Goals as goal
 use Rattle.compile_sums.proofs.sum_rows.Lts
 use Rattle.compile_sums.proofs.sum_rows.Reads
@@ -52,10 +52,10 @@ loop-i-preserved c =
     let os = operations_list L.loop-i.made in
     let e = sums.sum_row-joined.ensures in
     let own = g.row.ensures in
-    let operations = e.0 ∙ ap (λ (r : Row). os ++ (sum_of order_of_operands (depths_of s.args.n os) r).operations) own in
-    let output = e.1.0 ∙ ap (λ (r : Row). (sum_of order_of_operands (depths_of s.args.n os) r).output) own in
+    let operations = e.operations_value ∙ ap (λ (r : Row). os ++ (sum_of order_of_operands (depths_of s.args.n os) r).operations) own in
+    let output = e.output_value ∙ ap (λ (r : Row). (sum_of order_of_operands (depths_of s.args.n os) r).output) own in
     let outputs = c.push-outputs.ensures ∙ ap (λ (o : Output). outputs_list L.loop-i.outputs ++ (o ∷ [])) output in
-    rw (add-one i) (omega arith, before_next_row L.loop-i.invariant.1 (inside g.before.before.before.before.before.before) _ _ _ operations outputs e.1.1)
+    rw (add-one i) (omega arith, before_next_row L.loop-i.invariant.1 (inside g.before.before.before.before.before.before) _ _ _ operations outputs e.holds_depths_2)
 
 pub returns : goal.returns
-returns c = let L = c in rows-ended L.loop-i.invariant.1 (omega (arith, L.m-m.ensures))
+returns c = let L = c in let both = rows-ended L.loop-i.invariant.1 (omega (arith, L.m-m.ensures)) in record { operations_value = both.0; outputs_value = both.1 }

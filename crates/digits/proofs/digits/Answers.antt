@@ -12,7 +12,7 @@ use lib.Seq.{take-suc-set, take_all}
 use mir.Syntax.{w8, w16, w32}
 use mir.Val.{SFits, to_z, of_z}
 use Rattle.integers.proofs.Size.{fits_wider}
-use Rattle.integers.proofs.Held.{is, held, need_cast, held_cast, call_result}
+use Rattle.integers.proofs.Held.{is, held, held_cast, call_result}
 use Rattle.digits.specs.Digits.{digit, rest, digits}
 use Rattle.digits.proofs.digits.Goals as goal
 

@@ -1,19 +1,10 @@
 -- `digits::digits` meets its contract. The loop's invariant: the digits so far and those of what is left are the number's digits.
 -- Assumes nothing.
-use mathlib.Core.Path.{◌≡◌, refl, sym, ap, ◌∙◌}
-use mathlib.Core.List.{List, [], ◌∷◌, ◌++◌, append_assoc, append-nil}
-use Prim.Native.Nat.{ℕ, suc, ◌-◌, ◌≤◌, ◌<◌}
-use native.Mathlib.Omega.{arith}
-use native.Mathlib.Numerals.{add-one}
-use lib.Dec.{lit≤}
-use lib.IntN.{ℤ}
-use lib.ListN.{length, take, set, length-set}
-use lib.Seq.{take-suc-set, take_all}
-use mir.Syntax.{w8, w16, w32}
-use mir.Val.{SFits, to_z, of_z}
-use Rattle.integers.proofs.Size.{fits_wider}
-use Rattle.integers.proofs.Held.{is, held, need_cast, held_cast, call_result}
-use Rattle.digits.specs.Digits.{digit, rest, digits}
+use mathlib.Core.Path.{◌≡◌}
+use mathlib.Core.List.{◌++◌}
+use Prim.Native.Nat.{◌-◌, ◌≤◌}
+use lib.ListN.{length, take}
+use Rattle.digits.specs.Digits.{digits}
 use Rattle.digits.proofs.digits.Given as goal
 
 abbrev pub invariant-loop-i : goal.invariant-loop-i

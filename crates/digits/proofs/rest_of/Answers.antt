@@ -1,10 +1,10 @@
 -- `digits::rest_of` meets its contract. Assumes nothing.
 use mathlib.Core.Path.{sym, ap, ◌∙◌}
 use native.Mathlib.Omega.{arith}
-use lib.IntN.{ℤ, +ℤ_idr, ◌+ℤ◌}
+use lib.IntN.{+ℤ_idr, ◌+ℤ◌}
 use lib.Signed.{shr_z}
 use mir.Syntax.{w32}
-use Rattle.integers.proofs.Held.{held, held_nat, held_shr, held-+, need-+, returned}
+use Rattle.integers.proofs.Held.{held, held_nat, held_shr, held-+, returned}
 use Rattle.digits.specs.Digits.{mod_four, carry_of, rest}
 use Rattle.digits.proofs.Lowest.{mod_four-below}
 use Rattle.digits.proofs.Bits.{masked, carry_otherwise, carried_fits}

@@ -8,9 +8,12 @@ use Rattle.generate_output.specs.GenerateOutput.{generate_output}
 use Rattle.generate_output.proofs.write_generated.Goals as goal
 
 pub returns-then-output-lt-LONGEST_RECORD : goal.returns-then-output-lt-LONGEST_RECORD
-returns-then-output-lt-LONGEST_RECORD c = wrote_none longest_record _ _ c.if-output-lt-LONGEST_RECORD.true
+returns-then-output-lt-LONGEST_RECORD c =
+    let both = wrote_none longest_record _ _ c.if-output-lt-LONGEST_RECORD.true in
+    record { wrote = both.0; prefix_length = both.1 }
 
 pub returns : goal.returns
 returns c =
     let input = c.args.input.now in
-    wrote_whole longest_record (omega arith) (wrote_as (ap (generate_output (get_or input 0 0) (get_or input 1 0)) c.double_word_at-seed.ensures) c.write_record.ensures)
+    let both = wrote_whole longest_record (omega arith) (wrote_as (ap (generate_output (get_or input 0 0) (get_or input 1 0)) c.double_word_at-seed.ensures) c.write_record.ensures) in
+    record { wrote = both.0; prefix_length = both.1 }

@@ -13,8 +13,8 @@ use Rattle.generate_output.proofs.write_record.Reads
 use Rattle.generate_output.proofs.write_record.Tie
 
 -- what is known once generate has answered
-module _ (c : Lts.After-generate Tie.the-claims Reads.Pre Reads.Post) where
-  abbrev s : Lts.Start Tie.the-claims Reads.Pre Reads.Post
+module _ (c : Lts.After-generate Tie.the-claims Reads.Pre Reads.Post Tie.handed_clauses) where
+  abbrev s : Lts.Start Tie.the-claims Reads.Pre Reads.Post Tie.handed_clauses
   s = c.before.before.before
 
   refused : (c.generate-answer.result.refusal ≡ 0 → ⊥)
@@ -28,10 +28,10 @@ module _ (c : Lts.After-generate Tie.the-claims Reads.Pre Reads.Post) where
 
 pub returns-then-answer-ne0 : goal.returns-then-answer-ne0
 returns-then-answer-ne0 c =
-    let k = c in
-    let line = refused k.before.before.before.before.before.before.before.before.before c.if-answer-ne0.true in
+    let place = c.before.before.before.before.before.before.before.before.before in
+    let line = refused place c.if-answer-ne0.true in
     let w = c.write_refused in
-    subst (λ (l : List ℕ). Wrote l w.new.text w.result (generate_output (s k.before.before.before.before.before.before.before.before.before).args.m (s k.before.before.before.before.before.before.before.before.before).args.n (s k.before.before.before.before.before.before.before.before.before).args.seed)) line.1 (wrote_as line.0 w.ensures.wrote)
+    subst (λ (l : List ℕ). Wrote l w.new.text w.result (generate_output (s place).args.m (s place).args.n (s place).args.seed)) line.1 (wrote_as line.0 w.ensures.wrote)
 
 pub returns : goal.returns
 returns c = accepted c.before.before.before.before.before c.if-answer-ne0.false

@@ -1,5 +1,5 @@
 -- `generator::generate` meets its contract. Assumes nothing.
-use Rattle.std.proofs.Common.{◌≡◌, ℕ, ◌*◌, ◌≤◌, false, length, sym, ap, ◌∙◌, arith, rules}
+use Rattle.std.proofs.Common.{◌≡◌, ℕ, ◌*◌, ◌≤◌, false, length, sym, ap, ◌∙◌, arith}
 use Rattle.limits.specs.Size.{SizeLimits, size_outside}
 use Rattle.limits.proofs.Size.{size-within}
 use Rattle.layout_rules.specs.Matrix.{matrix_length, longest_record}
@@ -15,8 +15,7 @@ use Rattle.generator.proofs.generate.Tie
 
 pub returns-then-size_outside : goal.returns-then-size_outside
 returns-then-size_outside c =
-    let s = c in
-    let both = size-refused s.args.m s.args.n s.args.seed s.args.buffer.now (sym c.size_outside.ensures ∙ c.if-size_outside.true) in
+    let both = size-refused c.args.m c.args.n c.args.seed c.args.buffer.now (sym c.size_outside.ensures ∙ c.if-size_outside.true) in
     record { value = c.refused.ensures ∙ both.0; buffer_after = both.1 }
 
 -- sizes within the limits
@@ -44,28 +43,21 @@ coefficient_place-size-requires c = omega (arith, few c.before)
 
 pub returns-then-buffer-size : goal.returns-then-buffer-size
 returns-then-buffer-size c =
-    let e = c in
-    let s = e in
-    let both = short-refused s.args.m s.args.n s.args.seed s.args.buffer.now (inside e.before.before.before.before) (omega (arith, c.coefficient_place-size.ensures, c.if-buffer-size.true)) in
+    let both = short-refused c.args.m c.args.n c.args.seed c.args.buffer.now (inside c.before.before.before.before) (omega (arith, c.coefficient_place-size.ensures, c.if-buffer-size.true)) in
     record { value = c.refused-then-buffer-size.ensures ∙ both.0; buffer_after = both.1 }
 
 pub write_matrix_head-requires : goal.write_matrix_head-requires
 write_matrix_head-requires c =
-    let e = c in
-    record { size_limits = limits e.before.before.before; coefficient_place_in_bounds = omega (arith, c.coefficient_place-size.ensures, c.if-buffer-size.false) }
+    record { size_limits = limits c.before.before.before; coefficient_place_in_bounds = omega (arith, c.coefficient_place-size.ensures, c.if-buffer-size.false) }
 
 pub returns : goal.returns
 unfolding generated_record
 returns c =
-    let w = c in
-    let h = w in
-    let fits = h in
-    let size = fits.coefficient_place-size.ensures in
-    let e = fits in
-    let s = e in
-    let room : matrix_length (m e.before.before.before.before.before.before.before.before.before.before.before) (n e.before.before.before.before.before.before.before.before.before.before.before) ≤ length s.args.buffer.now = omega (arith, size, fits.if-buffer-size.false) in
-    let words = generated_words s.args.seed (m e.before.before.before.before.before.before.before.before.before.before.before * n e.before.before.before.before.before.before.before.before.before.before.before) in
-    let both = generate_accepted_lem (m e.before.before.before.before.before.before.before.before.before.before.before) (n e.before.before.before.before.before.before.before.before.before.before.before) s.args.seed s.args.buffer.now (inside e.before.before.before.before.before.before.before.before.before.before.before) room in record {
-      value = ap (λ (x : ℕ). record { refusal = 0; place = 0; written = x }) (size ∙ sym (generated_length (m e.before.before.before.before.before.before.before.before.before.before.before) (n e.before.before.before.before.before.before.before.before.before.before.before) s.args.seed)) ∙ both.0;
-      buffer_after = w.write_coefficients.ensures ∙ record-written (m e.before.before.before.before.before.before.before.before.before.before.before) (n e.before.before.before.before.before.before.before.before.before.before.before) words s.args.buffer.now _ (length_generated s.args.seed (m e.before.before.before.before.before.before.before.before.before.before.before * n e.before.before.before.before.before.before.before.before.before.before.before)) room h.write_matrix_head.ensures ∙ both.1;
+    let earlier = c.before.before.before.before.before.before.before.before.before.before.before in
+    let size = c.coefficient_place-size.ensures in
+    let room : matrix_length (m earlier) (n earlier) ≤ length c.args.buffer.now = omega (arith, size, c.if-buffer-size.false) in
+    let words = generated_words c.args.seed (m earlier * n earlier) in
+    let both = generate_accepted_lem (m earlier) (n earlier) c.args.seed c.args.buffer.now (inside earlier) room in record {
+      value = ap (λ (x : ℕ). record { refusal = 0; place = 0; written = x }) (size ∙ sym (generated_length (m earlier) (n earlier) c.args.seed)) ∙ both.0;
+      buffer_after = c.write_coefficients.ensures ∙ record-written (m earlier) (n earlier) words c.args.buffer.now _ (length_generated c.args.seed (m earlier * n earlier)) room c.write_matrix_head.ensures ∙ both.1;
     }

@@ -1,5 +1,4 @@
 -- `generator::grown_state` meets its contract. Assumes nothing.
-use Rattle.std.proofs.Common.{rules}
 use Rattle.generator.specs.Generator.{grown}
 use Rattle.generator.proofs.grown_state.Goals as goal
 

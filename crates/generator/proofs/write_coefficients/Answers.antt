@@ -1,5 +1,5 @@
 -- `generator::write_coefficients` meets its contract. Assumes nothing.
-use Rattle.std.proofs.Common.{◌≡◌, ℕ, ◌+◌, ◌-◌, ◌≤◌, length, refl, ap, ◌∙◌, ap₂, arith, rules}
+use Rattle.std.proofs.Common.{ℕ, ◌+◌, ◌≤◌, length, refl, ap, ◌∙◌, ap₂, arith}
 use mathlib.Core.List.{flat_map}
 use Rattle.layout_rules.specs.Bytes.{little_endian}
 use Rattle.layout_rules.specs.Matrix.{coefficient_place}
@@ -16,20 +16,17 @@ write_word-requires c = omega (arith, c.coefficient_place.ensures)
 
 pub loop-index-preserved : goal.loop-index-preserved
 loop-index-preserved c =
-    let w = c in
-    let place = w.coefficient_place.ensures in
-    let grows = w.grown_state-state.ensures in
-    let gives = w.upper_half.ensures ∙ ap upper_half grows in
-    let l = w in
-    let s = l in
-    let after = w.write_word.new.buffer in
-    let one = w.write_word.ensures ∙ ap₂ (λ (at x : ℕ). written l.loop-index.buffer at (little_endian x)) place gives in
-    let room : coefficient_place s.args.count ≤ length l.loop-index.buffer = omega (arith, s.requires, l.loop-index.invariant.1) in (
+    let place = c.coefficient_place.ensures in
+    let grows = c.grown_state-state.ensures in
+    let gives = c.upper_half.ensures ∙ ap upper_half grows in
+    let after = c.write_word.new.buffer in
+    let one = c.write_word.ensures ∙ ap₂ (λ (at x : ℕ). written c.loop-index.buffer at (little_endian x)) place gives in
+    let room : coefficient_place c.args.count ≤ length c.loop-index.buffer = omega (arith, c.requires, c.loop-index.invariant.1) in (
       omega arith,
-      coefficient_length l.loop-index.buffer after l.loop-index.state s.args.count l.loop-index.index (omega arith) room one ∙ l.loop-index.invariant.1,
-      ap (λ (x : ℕ). with_coefficients after x s.args.count (l.loop-index.index + 1)) grows
-          ∙ coefficient_next l.loop-index.buffer after l.loop-index.state s.args.count l.loop-index.index (omega arith) room one
-          ∙ l.loop-index.invariant.2,
+      coefficient_length c.loop-index.buffer after c.loop-index.state c.args.count c.loop-index.index (omega arith) room one ∙ c.loop-index.invariant.1,
+      ap (λ (x : ℕ). with_coefficients after x c.args.count (c.loop-index.index + 1)) grows
+          ∙ coefficient_next c.loop-index.buffer after c.loop-index.state c.args.count c.loop-index.index (omega arith) room one
+          ∙ c.loop-index.invariant.2,
     )
 
 pub shape_of-buffer : goal.shape_of-buffer
@@ -37,7 +34,5 @@ shape_of-buffer c = c.loop-index.invariant.1
 
 pub returns : goal.returns
 returns c =
-    let l = c in
-    let s = l in
-    coefficients-end l.loop-index.buffer l.loop-index.state s.args.count l.loop-index.index (omega arith) ∙ l.loop-index.invariant.2
-    ∙ ap (λ (k : ℕ). written s.args.buffer.now (coefficient_place 0) (flat_map little_endian (generated_words s.args.seed k))) (omega arith)
+    coefficients-end c.loop-index.buffer c.loop-index.state c.args.count c.loop-index.index (omega arith) ∙ c.loop-index.invariant.2
+    ∙ ap (λ (k : ℕ). written c.args.buffer.now (coefficient_place 0) (flat_map little_endian (generated_words c.args.seed k))) (omega arith)

@@ -1,15 +1,14 @@
 -- `listing::write_operations` meets its contract. The loop's invariant: what is written and the lines left make the whole. Assumes nothing.
-use Prim.Native.Nat.{ℕ, ◌*◌, ◌-◌, ◌≤◌}
+use Prim.Native.Nat.{ℕ}
 use mathlib.Core.Path.{◌≡◌, refl, sym, ap, ◌∙◌}
 use native.Mathlib.Omega.{arith}
-use lib.ListN.{length, length-take, length-drop}
+use lib.ListN.{length-take, length-drop}
 use Rattle.layout_rules.specs.Records.{operation_length, operation_of}
 use Rattle.layout_rules.specs.Places.{payload_of, operation_place, operation_at, first_operations}
 use Rattle.layout_rules.proofs.FirstRecords.{length-first, get_d_first}
 use Rattle.layout_rules.proofs.InBytes.{length-due}
 use Rattle.listing_rules.specs.Listing.{operation_line}
-use Rattle.listing_rules.specs.Records.{longest_operation_line}
-use Rattle.text.proofs.Listed.{Listed, listed_start, listed_more, listed_end}
+use Rattle.text.proofs.Listed.{listed_start, listed_more, listed_end}
 use Rattle.listing.proofs.write_operations.Goals as goal
 
 pub loop-k-init : goal.loop-k-init
@@ -17,16 +16,14 @@ loop-k-init c = let a = c.args in (listed_start operation_line a.inputs (first_o
 
 pub operation_place-place-requires : goal.operation_place-place-requires
 operation_place-place-requires c =
-    let s = c in
-    (omega (arith, s.requires.head_value.0, length-due s.args.netlist.now), omega arith)
+    (omega (arith, c.requires.head_value.0, length-due c.args.netlist.now), omega arith)
 
 pub write_operation-at-requires : goal.write_operation-at-requires
 write_operation-at-requires c = simp (length-take, length-drop) (omega arith)
 
 pub loop-k-preserved : goal.loop-k-preserved
 loop-k-preserved c =
-    let s = c in
-    let a = s.args in
+    let a = c.args in
     let l = c.loop-k in
     let h = c.loop-k-test.true in
     let place = c.operation_place-place in
@@ -34,7 +31,7 @@ loop-k-preserved c =
     let wrote = c.write_operation-at in
     let operation = operation_at a.netlist.now in
     let there : read.result ≡ operation l.k =
-    read.ensures ∙ ap (λ (p : ℕ). operation_of (payload_of a.netlist.now p operation_length)) (place.ensures ∙ ap (λ (h : ℕ). operation_place h l.k) s.requires.head_value.0) in (
+    read.ensures ∙ ap (λ (p : ℕ). operation_of (payload_of a.netlist.now p operation_length)) (place.ensures ∙ ap (λ (h : ℕ). operation_place h l.k) c.requires.head_value.0) in (
       listed_more operation_line a.inputs (first_operations a.netlist.now a.operations) a.text.now l.invariant.0
           (omega (arith, h, length-first operation a.operations))
           (get_d_first operation a.operations l.k _ h ∙ sym there)

@@ -1,15 +1,11 @@
 -- `listing::write_outputs` meets its contract. The loop's invariant: what is written and the lines left make the whole. Assumes nothing.
-use Prim.Native.Nat.{ℕ, ◌+◌, ◌*◌, ◌-◌, ◌≤◌}
-use mathlib.Core.Path.{◌≡◌, refl, sym, ap, ◌∙◌}
-use native.Mathlib.Omega.{arith}
-use lib.ListN.{length, length-take, length-drop}
-use Rattle.layout_rules.specs.Records.{output_length, output_of}
-use Rattle.layout_rules.specs.Places.{payload_of, output_place, output_at, first_outputs}
-use Rattle.layout_rules.proofs.FirstRecords.{length-first, get_d_first}
-use Rattle.layout_rules.proofs.InBytes.{length-due}
+use Prim.Native.Nat.{◌*◌, ◌-◌, ◌≤◌}
+use mathlib.Core.Path.{◌≡◌}
+use lib.ListN.{length}
+use Rattle.layout_rules.specs.Places.{first_outputs}
 use Rattle.listing_rules.specs.Listing.{output_line}
 use Rattle.listing_rules.specs.Records.{longest_output_line}
-use Rattle.text.proofs.Listed.{Listed, listed_start, listed_more, listed_end}
+use Rattle.text.proofs.Listed.{Listed}
 use Rattle.listing.proofs.write_outputs.Given as goal
 
 abbrev pub invariant-loop-row : goal.invariant-loop-row

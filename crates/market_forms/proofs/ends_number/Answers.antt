@@ -10,8 +10,7 @@ returns-then-end-from c = sym (rw (le-ltb _ _ c.if-end-from.true))
 
 pub returns-then-line-end : goal.returns-then-line-end
 returns-then-line-end c =
-    let s = c in
-    sym (rw (lt-ltb _ _ c.if-end-from.false, get_or-eq_default s.args.line.now 0 {n = s.args.end} c.if-line-end.true))
+    sym (rw (lt-ltb _ _ c.if-end-from.false, get_or-eq_default c.args.line.now 0 {n = c.args.end} c.if-line-end.true))
 
 pub returns-then-line-end-ne-LINE_FEED : goal.returns-then-line-end-ne-LINE_FEED
 returns-then-line-end-ne-LINE_FEED c = sym (rw (lt-ltb _ _ c.if-end-from.false, ne_eqb _ 10 c.if-line-end-ne-LINE_FEED.true))

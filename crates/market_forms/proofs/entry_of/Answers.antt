@@ -83,27 +83,25 @@ read_digits-digits-requires c = omega (arith, from_is c.before, sign-within (lin
 
 pub returns-then-not-ends_number : goal.returns-then-not-ends_number
 returns-then-not-ends_number c =
-    let d = c in
-    let no = declined _ (tested d.before.before ∙ ap (λ (t : Bool). t && leb (said d.before.before) (most (start d.before.before))) (not-true d.ends_number.result c.if-not-ends_number.true-raw)) in
+    let no = declined _ (tested c.before.before ∙ ap (λ (t : Bool). t && leb (said c.before.before) (most (start c.before.before))) (not-true c.ends_number.result c.if-not-ends_number.true-raw)) in
     record { form_value = no.0; word_value = no.1 }
 
 pub returns-then-digits-most : goal.returns-then-digits-most
 returns-then-digits-most c =
-    let d = c in
-    let much = lt-leb (said d.before.before.before.before) (most (start d.before.before.before.before)) (omega (arith, value-is d.before.before.before.before, most-is (start d.before.before.before.before), c.if-digits-most.true)) in
-    let no = declined _ (tested d.before.before.before.before ∙ rw (much, and-false)) in
+    let place = c.before.before.before.before in
+    let much = lt-leb (said place) (most (start place)) (omega (arith, value-is place, most-is (start place), c.if-digits-most.true)) in
+    let no = declined _ (tested place ∙ rw (much, and-false)) in
     record { form_value = no.0; word_value = no.1 }
 
 pub overflow_cast-result : goal.overflow_cast-result
 overflow_cast-result c =
-    let d = c in
-    (elim c.if-negative-3.branch [ then-negative-3 a ↦ omega (arith, a.struct_known-then-negative-3-1) | else-negative-3 a ↦ omega (arith, a.word-is, d.if-digits-most.false, most-small (start (ended d.before.before.before))) ])
+    (elim c.if-negative-3.branch [ then-negative-3 a ↦ omega (arith, a.struct_known-then-negative-3-1) | else-negative-3 a ↦ omega (arith, a.word-is, c.if-digits-most.false, most-small (start (ended c.before.before.before))) ])
 
 pub returns : goal.returns
 returns c =
-    let d = c in
-    let e = ended d.before.before.before in
-    let few = le-leb (said e) (most (start e)) (omega (arith, said-is d.before.before.before, most-is (start e), d.if-digits-most.false)) in record {
-      form_value = sym (tested e ∙ ap₂ ◌&&◌ (not-false e.ends_number.result d.if-not-ends_number.false-raw) few);
+    let place = c.before.before.before in
+    let e = ended place in
+    let few = le-leb (said e) (most (start e)) (omega (arith, said-is place, most-is (start e), c.if-digits-most.false)) in record {
+      form_value = sym (tested e ∙ ap₂ ◌&&◌ (not-false e.ends_number.result c.if-not-ends_number.false-raw) few);
       word_value = λ _. word-is c.before.before;
     }

@@ -46,8 +46,7 @@ returns-then-blank-eq0 c =
 
 pub returns-then-blank-line : goal.returns-then-blank-line
 returns-then-blank-line c =
-    let s = c in
-    let no = declined _ (size_places _ _ _ s.read_digits-rows.ensures.end_value refl ∙ rw (get_or-eq_default s.args.line.now 0 {n = s.read_digits-rows.result.end} c.if-blank-line.true, and-false)) in
+    let no = declined _ (size_places _ _ _ c.read_digits-rows.ensures.end_value refl ∙ rw (get_or-eq_default c.args.line.now 0 {n = c.read_digits-rows.result.end} c.if-blank-line.true, and-false)) in
     record { form_value = no.0; m_value = no.1 }
 
 pub returns-then-line-blank-ne-BLANK : goal.returns-then-line-blank-ne-BLANK
@@ -62,9 +61,9 @@ returns-then-not-ends_number c =
 
 pub returns : goal.returns
 returns c =
-    let d = c in
-    let columns = d.read_digits-columns in
-    let rows = d.read_digits-rows in record {
-      form_value = sym (tested d.before.before.before.before ∙ not-false _ c.if-not-ends_number.false-raw);
-      m_value = λ _. (omega (arith, c.at_most_byte.ensures, rows.ensures.value_value), omega (arith, c.at_most_byte-2.ensures, columns.ensures.value_value, columns-said d.before.before.before.before));
+    let earlier = c.before.before.before.before in
+    let columns = c.read_digits-columns in
+    let rows = c.read_digits-rows in record {
+      form_value = sym (tested earlier ∙ not-false _ c.if-not-ends_number.false-raw);
+      m_value = λ _. (omega (arith, c.at_most_byte.ensures, rows.ensures.value_value), omega (arith, c.at_most_byte-2.ensures, columns.ensures.value_value, columns-said earlier));
     }

@@ -2,14 +2,13 @@
 use Prim.Native.Nat.{ℕ, ◌+◌, ◌*◌, ◌-◌, ◌≤◌, min}
 use mathlib.Core.Path.{◌≡◌, refl, sym, ◌∙◌}
 use mathlib.Core.Bool.{true}
-use mathlib.Core.Logic.{⊎_elim}
 use mathlib.Core.List.{List}
 use native.Mathlib.Omega.{arith}
-use lib.ListN.{length, get_or}
+use lib.ListN.{get_or}
 use borrow.Author.Tests.{not-true, not-false}
 use Rattle.market_rules.specs.Forms.{is_digit}
 use Rattle.market_rules.proofs.FormLaws.{digit_says}
-use Rattle.market_lines.proofs.Scan.{DigitsFrom, digits_stop, digits_next, digits-end, no_digit}
+use Rattle.market_lines.proofs.Scan.{digits_stop, digits_next, digits-end, no_digit}
 use Rattle.market_lines.proofs.read_digits.Goals as goal
 use Rattle.market_lines.proofs.read_digits.Goals.{then-value-gt65535, else-value-gt65535}
 use Rattle.market_lines.proofs.read_digits.Lts

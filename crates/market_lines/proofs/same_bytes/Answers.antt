@@ -1,9 +1,6 @@
 -- `market_lines::same_bytes` meets its contract. Assumes nothing.
-use Prim.Native.Nat.{◌-◌, ◌≤◌}
-use mathlib.Core.Path.{◌≡◌, refl, sym, ◌∙◌}
+use mathlib.Core.Path.{refl, sym, ◌∙◌}
 use native.Mathlib.Omega.{arith}
-use lib.ListN.{length, drop}
-use Rattle.market_rules.specs.Forms.{same}
 use Rattle.market_lines.proofs.Scan.{other_lengths, same_end, same_next, other_byte}
 use Rattle.market_lines.proofs.same_bytes.Goals as goal
 
@@ -18,18 +15,12 @@ bounds-ys-i c = omega (arith, c.if-xs-ys.false)
 
 pub returns-then-xs-i : goal.returns-then-xs-i
 returns-then-xs-i c =
-    let l = c in
-    let s = l in
-    other_byte s.args.xs.now s.args.ys.now l.loop-i.i l.if-xs-ys.false (omega arith) c.if-xs-i.true ∙ sym l.loop-i.invariant.1
+    other_byte c.args.xs.now c.args.ys.now c.loop-i.i c.if-xs-ys.false (omega arith) c.if-xs-i.true ∙ sym c.loop-i.invariant.1
 
 pub loop-i-preserved : goal.loop-i-preserved
 loop-i-preserved c =
-    let l = c in
-    let s = l in
-    (omega arith, l.loop-i.invariant.1 ∙ same_next s.args.xs.now s.args.ys.now l.loop-i.i l.if-xs-ys.false (omega arith) c.if-xs-i.false)
+    (omega arith, c.loop-i.invariant.1 ∙ same_next c.args.xs.now c.args.ys.now c.loop-i.i c.if-xs-ys.false (omega arith) c.if-xs-i.false)
 
 pub returns : goal.returns
 returns c =
-    let l = c in
-    let s = l in
-    same_end s.args.xs.now s.args.ys.now l.loop-i.i l.if-xs-ys.false (omega arith) ∙ sym l.loop-i.invariant.1
+    same_end c.args.xs.now c.args.ys.now c.loop-i.i c.if-xs-ys.false (omega arith) ∙ sym c.loop-i.invariant.1

@@ -1,10 +1,8 @@
 -- `market_lines::same_bytes` meets its contract. Assumes nothing.
 use Prim.Native.Nat.{◌-◌, ◌≤◌}
-use mathlib.Core.Path.{◌≡◌, refl, sym, ◌∙◌}
-use native.Mathlib.Omega.{arith}
+use mathlib.Core.Path.{◌≡◌}
 use lib.ListN.{length, drop}
 use Rattle.market_rules.specs.Forms.{same}
-use Rattle.market_lines.proofs.Scan.{other_lengths, same_end, same_next, other_byte}
 use Rattle.market_lines.proofs.same_bytes.Given as goal
 
 abbrev pub invariant-loop-i : goal.invariant-loop-i

@@ -44,7 +44,7 @@ module _ (c : Lts.Else2 Tie.the-claims Reads.Pre Reads.Post Tie.handed_clauses) 
   abbrev d : Lts.After-netlist Tie.the-claims Reads.Pre Reads.Post Tie.handed_clauses
   d = c.before.before
 
-  held : NetlistHeld (b d) d.netlist-read.last.1.0
+  held : NetlistHeld (b d) d.netlist-read.new.forms
   held = (d.netlist-read.ensures.1 c.if-read-ne0.false).0
 
   reads : read_netlist (b d) ≡ accepted (netlist_in (b d))

@@ -1,12 +1,12 @@
 -- `netlist_check::rows_answer` meets its contract. What is left to compare is the rows from i on. Assumes nothing.
 use mathlib.Core.Path.{◌≡◌, refl, sym, ap, ap₂, ◌∙◌, subst}
-use Prim.Native.Nat.{ℕ, ◌+◌, ◌*◌, ◌-◌, ◌≤◌, ◌<◌}
+use Prim.Native.Nat.{ℕ, ◌+◌, ◌*◌, ◌≤◌, ◌<◌}
 use mathlib.Core.List.{List, []}
 use native.Mathlib.Omega.{arith}
 use native.Mathlib.Nat.{mul-le-mul}
 use native.Mathlib.Numerals.{add-one}
 use lib.IntN.{ℤ}
-use lib.ListN.{length, get_or, drop}
+use lib.ListN.{length, get_or}
 use borrow.Author.Tests.{not-true, not-false}
 use Rattle.limits.specs.Limits.{max_rows, max_columns, max_operations, max_symbols}
 use Rattle.layout_rules.specs.declared.Output.{Output}
@@ -20,10 +20,10 @@ use Rattle.layout_rules.proofs.InBytes.{length-due}
 use Rattle.board_rules.specs.Machine.{output_form}
 use Rattle.board_rules.specs.Table.{output_row}
 use Rattle.board_rules.specs.Netlist.{OutputOperand}
-use Rattle.netlist_rules.specs.Check.{same_row, rows_answer}
+use Rattle.netlist_rules.specs.Check.{same_row}
 use Rattle.netlist_rules.specs.Exact.{read_limits}
 use Rattle.netlist_read.specs.Tables.{NetlistHeld}
-use Rattle.netlist_check.specs.Compared.{SameSizes, RowReady, rows_matched}
+use Rattle.netlist_check.specs.Compared.{SameSizes, RowReady}
 use Rattle.netlist_read.proofs.NetlistLaws.{head-limits, output-there}
 use Rattle.netlist_check.proofs.CheckLaws.{row_same, row-differs, rows_end, row_compared, row_ready}
 use Rattle.netlist_check.proofs.rows_answer.Goals as goal
@@ -115,8 +115,7 @@ module _ (c : Lts.After-output_at Tie.the-claims Reads.Pre Reads.Post goal.the-i
 
 pub same_row-requires : goal.same_row-requires
 same_row-requires c = let D = d c.before in
-    subst (λ (p : Output). ((n D ≤ max_columns) × ((i D * n D ≤ max_rows * max_columns) × (p.symbol < max_symbols))) × RowReady (mx D) (i D * n D) (n D) (forms D) p) (sym (read c.before))
-    record { n_le_max_columns = ((few D).2, (index D, below D)); row_ready = ready c.before }
+    rw (read c.before) record { n_le_max_columns = ((few D).2, (index D, below D)); row_ready = ready c.before }
 
 module _ (c : Lts.After-same_row Tie.the-claims Reads.Pre Reads.Post goal.the-invariant-loop-i goal.the-decreases-loop-i Tie.handed_clauses) where
   abbrev D : Lts.In-loop Tie.the-claims Reads.Pre Reads.Post goal.the-invariant-loop-i goal.the-decreases-loop-i Tie.handed_clauses

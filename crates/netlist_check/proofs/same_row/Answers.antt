@@ -1,6 +1,6 @@
 -- `netlist_check::same_row` meets its contract. What is left to compare is the columns from j on. Assumes nothing.
 use mathlib.Core.Path.{◌≡◌, sym, ap, ◌∙◌}
-use Prim.Native.Nat.{ℕ, ◌+◌, ◌-◌, ◌^◌, ◌≤◌, ◌<◌}
+use Prim.Native.Nat.{ℕ, ◌+◌, ◌^◌, ◌<◌}
 use mathlib.Core.List.{List}
 use native.Mathlib.Omega.{arith}
 use native.Mathlib.Numerals.{add-one}
@@ -14,8 +14,7 @@ use Rattle.integers.proofs.Held.{Held, is, held, held-is, need_widen, held_cast,
 use Rattle.layout_rules.specs.declared.Output.{Output}
 use Rattle.layout_rules.specs.Matrix.{coefficients_from}
 use Rattle.board_rules.specs.Machine.{shifted, with_sign}
-use Rattle.board_rules.specs.Table.{Small, table_coefficient, each_column_from}
-use Rattle.netlist_rules.specs.Check.{same_row}
+use Rattle.board_rules.specs.Table.{Small, table_coefficient}
 use Rattle.netlist_check.proofs.CheckLaws.{columns-start, column-same, column-differs, columns-end}
 use Rattle.netlist_check.proofs.same_row.Goals as goal
 use Rattle.netlist_check.proofs.same_row.Invariants.{f}
@@ -41,7 +40,7 @@ module _ (forms : List ℤ) (o : Output) (j : ℕ) (fx : SFits w64 (table_coeffi
   first r ok e = held-is (held (record { sfits = ok })) (e ∙ ap (λ (z : ℤ). with_sign o.sign (shifted z o.shift)) x-is)
 
 second : (r y : ℤ) → mag r < 2 ^ 15 → r ≡ y → Held w64 (of_z w64 (to_z w16 (of_z w16 r))) y
-second r y ok e = held-is (held_cast w64 (held (record { sfits = ok })) (fits_wider w16 w64 r (lit≤ tt) (record { sfits = ok }))) e
+second r y ok e = held-is (held_cast {w = w16} w64 (held (record { sfits = ok })) (fits_wider w16 w64 r (lit≤ tt) (record { sfits = ok }))) e
 
 pub output_value-x-requires : goal.output_value-x-requires
 output_value-x-requires c = let l = c in let s = l in asked s.args.forms.now s.args.o l.loop-j.j (record { sfits = c.c-1.given }) (s.requires.row_ready.small l.loop-j.j c.loop-j-test.true)

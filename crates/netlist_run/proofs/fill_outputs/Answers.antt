@@ -1,12 +1,11 @@
 -- `netlist_run::fill_outputs` meets its contract. What is left to write is the outputs from i on. Assumes nothing.
 use mathlib.Core.Path.{◌≡◌, refl, sym, ap, ap₂, ◌∙◌, subst}
-use Prim.Native.Nat.{ℕ, ◌+◌, ◌-◌, ◌^◌, ◌≤◌, ◌<◌}
-use mathlib.Core.List.{List, map}
+use Prim.Native.Nat.{ℕ, ◌+◌, ◌^◌, ◌≤◌, ◌<◌}
+use mathlib.Core.List.{List}
 use native.Mathlib.Omega.{arith}
 use native.Mathlib.Numerals.{add-one}
 use lib.IntN.{ℤ, pos}
-use lib.ListN.{length, drop, length-set}
-use lib.Seq.{sets}
+use lib.ListN.{length-set}
 use lib.Signed.{mag}
 use mir.Syntax.{w64}
 use mir.Val.{SFits, to_z, of_z}
@@ -14,7 +13,7 @@ use Rattle.limits.specs.Limits.{max_rows, max_operations, max_symbols}
 use Rattle.integers.proofs.Held.{is, held, call_result}
 use Rattle.layout_rules.specs.declared.Output.{Output}
 use Rattle.layout_rules.specs.Records.{output_length, output_of}
-use Rattle.layout_rules.specs.Places.{output_place, payload_of, head_length_in, head_at, output_at, outputs_in}
+use Rattle.layout_rules.specs.Places.{output_place, payload_of, head_length_in, head_at, output_at}
 use Rattle.layout_rules.proofs.InBytes.{length-due}
 use Rattle.board_rules.specs.Machine.{entry_at, shifted, with_sign, output_value}
 use Rattle.board_rules.specs.Table.{Small}

@@ -1,16 +1,16 @@
 -- `netlist_run::fit_answer` meets its contract. What is left to test is the samples from i on. Assumes nothing.
 use mathlib.Core.Path.{◌≡◌, refl, sym, ap, ◌∙◌}
-use Prim.Native.Nat.{ℕ, ◌-◌, ◌≤◌, ◌<◌}
+use Prim.Native.Nat.{ℕ, ◌<◌}
 use mathlib.Core.List.{List}
 use native.Mathlib.Omega.{arith}
 use native.Mathlib.Numerals.{add-one}
 use lib.Dec.{lit≤}
 use lib.IntN.{ℤ, pos}
-use lib.ListN.{length, get_or, drop}
+use lib.ListN.{length, get_or}
 use borrow.Author.Tests.{not-true, not-false}
 use mir.Syntax.{w32, w64}
 use Rattle.integers.proofs.Held.{need_widen, widened}
-use Rattle.netlist_rules.specs.Run.{fits, fit_answer}
+use Rattle.netlist_rules.specs.Run.{fits}
 use Rattle.netlist_run.proofs.BoardLaws.{sample-fits, sample-outside, no_sample_left}
 use Rattle.netlist_run.proofs.fit_answer.Goals as goal
 use Rattle.netlist_run.proofs.fit_answer.Lts

@@ -40,7 +40,7 @@ module _ (c : Lts.After-netlist Tie.the-claims Reads.Pre Reads.Post Tie.handed_c
   outs = s.args.outputs.now
 
 pub returns-then-read-ne0 : goal.returns-then-read-ne0
-returns-then-read-ne0 c = let d = c in run_declines (b d.before.before.before) (xs d.before.before.before) (outs d.before.before.before) d.netlist-read.result d.netlist-read.ensures.0 c.if-read-ne0.true
+returns-then-read-ne0 c = let d = c in let p = run_declines (b d.before.before.before) (xs d.before.before.before) (outs d.before.before.before) d.netlist-read.result d.netlist-read.ensures.0 c.if-read-ne0.true in record { value = p.0; outputs_after = p.1 }
 
 -- the netlist is read
 module _ (c : Lts.Else1 Tie.the-claims Reads.Pre Reads.Post Tie.handed_clauses) where
@@ -66,11 +66,11 @@ module _ (c : Lts.Else1 Tie.the-claims Reads.Pre Reads.Post Tie.handed_clauses) 
   operations-is = ap (λ (a : ReadAnswer). a.operations) fields
 
 pub returns-then-samples-n : goal.returns-then-samples-n
-returns-then-samples-n c = let e = c in let D = d e.before.before.before.before in samples-differ (b D) (xs D) (outs D) (netlist_in (b D)) (reads e.before.before.before.before) (λ z. c.if-samples-n.true (z ∙ sym (n-is e.before.before.before.before)))
+returns-then-samples-n c = let e = c in let D = d e.before.before.before.before in let p = samples-differ (b D) (xs D) (outs D) (netlist_in (b D)) (reads e.before.before.before.before) (λ z. c.if-samples-n.true (z ∙ sym (n-is e.before.before.before.before))) in record { value = p.0; outputs_after = p.1 }
 
 pub returns-then-outputs-m : goal.returns-then-outputs-m
 returns-then-outputs-m c = let e = c in let D = d e.before.before.before.before.before in
-    outputs-differ (b D) (xs D) (outs D) (netlist_in (b D)) (reads e.before.before.before.before.before) (c.if-samples-n.false ∙ n-is e.before.before.before.before.before) (λ z. c.if-outputs-m.true (z ∙ sym (m-is e.before.before.before.before.before)))
+    let p = outputs-differ (b D) (xs D) (outs D) (netlist_in (b D)) (reads e.before.before.before.before.before) (c.if-samples-n.false ∙ n-is e.before.before.before.before.before) (λ z. c.if-outputs-m.true (z ∙ sym (m-is e.before.before.before.before.before))) in record { value = p.0; outputs_after = p.1 }
 
 -- the samples are n, the outputs lent m
 module _ (c : Lts.Else3 Tie.the-claims Reads.Pre Reads.Post Tie.handed_clauses) where
@@ -115,7 +115,7 @@ module _ (c : Lts.After-fit_answer Tie.the-claims Reads.Pre Reads.Post Tie.hande
 
 pub returns-then-fit-ne0 : goal.returns-then-fit-ne0
 returns-then-fit-ne0 c = let f = c in let H = h f.before.before.before in let D = d (E H) in
-    samples-outside (B H) (xs D) (outs D) (netlist_in (B H)) (reads (E H)) (count (x H) ∙ n-is (E H)) ((x H).if-outputs-m.false ∙ m-is (E H)) f.fit_answer-fit.result (answer-is f.before.before.before) c.if-fit-ne0.true
+    let p = samples-outside (B H) (xs D) (outs D) (netlist_in (B H)) (reads (E H)) (count (x H) ∙ n-is (E H)) ((x H).if-outputs-m.false ∙ m-is (E H)) f.fit_answer-fit.result (answer-is f.before.before.before) c.if-fit-ne0.true in record { value = p.0; outputs_after = p.1 }
 
 pub start_values-requires : goal.start_values-requires
 start_values-requires c = let v = c in let X = x (h v.before.before.before.before.before) in
@@ -136,7 +136,7 @@ module _ (c : Lts.After-due_length Tie.the-claims Reads.Pre Reads.Post Tie.hande
   H = h y.before.before
 
   abbrev values : List ℤ
-  values = v.start_values.last.1.0
+  values = v.start_values.new.values
 
   started : take (n (x H)) values ≡ xs (d (E H))
   started = ap (λ (k : ℕ). take k values) (sym (count (x H))) ∙ v.start_values.ensures.held

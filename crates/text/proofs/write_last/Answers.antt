@@ -1,5 +1,4 @@
 -- `text::write_last` meets its contract. Assumes nothing.
-use mathlib.Core.Path.{refl}
 use native.Mathlib.Omega.{arith}
 use lib.ListN.{length-take, length-drop}
 use Rattle.text.specs.Text.{ascii}

@@ -13,10 +13,9 @@ write_operand-requires c = simp (length-take, length-drop) (omega arith)
 
 pub returns : goal.returns
 returns c =
-    let s = c in
     let first = c.write_operand-sign in
     let sign = c.write_sign in
     let second = c.write_operand in record {
-      wrote = wrote_as (operation_parts s.args.inputs s.args.operation) (wrote_more (wrote_more first.ensures.wrote sign.ensures.wrote) second.ensures.wrote);
+      wrote = wrote_as (operation_parts c.args.inputs c.args.operation) (wrote_more (wrote_more first.ensures.wrote sign.ensures.wrote) second.ensures.wrote);
       upper_bound = omega (arith, first.ensures.upper_bound, sign.ensures.upper_bound, second.ensures.upper_bound);
     }

@@ -1,5 +1,4 @@
 -- `verilog_lines::write_output` meets its contract. Assumes nothing.
-use mathlib.Core.Path.{refl}
 use native.Mathlib.Omega.{arith}
 use lib.ListN.{length-take, length-drop}
 use Rattle.text.proofs.Wrote.{wrote_as, wrote_more}
@@ -12,11 +11,10 @@ write_port_end-requires c = simp (length-take, length-drop) (omega arith)
 
 pub returns : goal.returns
 returns c =
-    let s = c in
     let top = c.top_bit-top in
     let pair = c.write_pair-at in
     let end = c.write_port_end in record {
-      wrote = wrote_as (output_parts s.args.ports s.args.inputs s.args.row top.result (output_of s.args.output) top.ensures)
+      wrote = wrote_as (output_parts c.args.ports c.args.inputs c.args.row top.result (output_of c.args.output) top.ensures)
           (wrote_more pair.ensures.wrote end.ensures.wrote);
       upper_bound = omega (arith, pair.ensures.upper_bound, end.ensures.upper_bound);
     }

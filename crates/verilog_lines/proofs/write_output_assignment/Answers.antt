@@ -1,5 +1,4 @@
 -- `verilog_lines::write_output_assignment` meets its contract. Assumes nothing.
-use mathlib.Core.Path.{refl}
 use native.Mathlib.Omega.{arith}
 use lib.ListN.{length-take, length-drop}
 use Rattle.text.specs.Text.{ascii}
@@ -19,12 +18,11 @@ copy-requires-2 c = simp (length-take, length-drop) (omega arith)
 
 pub returns : goal.returns
 returns c =
-    let s = c in
     let target = c.write_labelled-equals in
     let equals = c.copy in
     let value = c.write_output_expression in
     let end = c.copy-2 in record {
-      wrote = wrote_as (output_assignment_parts s.args.inputs s.args.row (output_of s.args.output))
+      wrote = wrote_as (output_assignment_parts c.args.inputs c.args.row (output_of c.args.output))
           (wrote_more (wrote_more (wrote_more target.ensures.wrote (wrote_copy _ (ascii " = ") _ _ equals.ensures.count equals.ensures.copied)) value.ensures.wrote)
           (wrote_copy _ (ascii ";\n") _ _ end.ensures.count end.ensures.copied));
       upper_bound = omega (arith, target.ensures.upper_bound, equals.ensures.count, value.ensures.upper_bound, end.ensures.count);

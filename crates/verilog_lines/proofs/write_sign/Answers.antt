@@ -1,5 +1,4 @@
 -- `verilog_lines::write_sign` meets its contract. Assumes nothing.
-use mathlib.Core.Path.{refl}
 use native.Mathlib.Omega.{arith}
 use Rattle.text.specs.Text.{ascii}
 use Rattle.text.proofs.Wrote.{wrote_as, wrote_copy}

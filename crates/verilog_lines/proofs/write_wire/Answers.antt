@@ -1,5 +1,4 @@
 -- `verilog_lines::write_wire` meets its contract. Assumes nothing.
-use mathlib.Core.Path.{refl}
 use native.Mathlib.Omega.{arith}
 use lib.ListN.{length-take, length-drop}
 use Rattle.text.specs.Text.{ascii}
@@ -13,11 +12,10 @@ copy-requires c = simp (length-take, length-drop) (omega arith)
 
 pub returns : goal.returns
 returns c =
-    let s = c in
     let top = c.top_bit-top in
     let pair = c.write_pair-at in
     let end = c.copy in record {
-      wrote = wrote_as (wire_parts s.args.symbol top.result (wire_of s.args.operation) top.ensures)
+      wrote = wrote_as (wire_parts c.args.symbol top.result (wire_of c.args.operation) top.ensures)
           (wrote_more pair.ensures.wrote (wrote_copy _ (ascii ";\n") _ _ end.ensures.count end.ensures.copied));
       upper_bound = omega (arith, pair.ensures.upper_bound, end.ensures.count);
     }

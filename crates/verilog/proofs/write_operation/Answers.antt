@@ -1,0 +1,15 @@
+-- `verilog::write_operation` meets its contract. Assumes nothing.
+use native.Mathlib.Omega.{arith}
+use Rattle.text.proofs.Wrote.{wrote_as}
+use Rattle.verilog.proofs.Parts.{chosen, otherwise}
+use Rattle.verilog.proofs.write_operation.Goals as goal
+
+pub returns-then-assigned : goal.returns-then-assigned
+returns-then-assigned c =
+    let wrote = c.write_wire_assignment.ensures in
+    record { wrote = wrote_as (chosen _ _ _ c.if-assigned.true) wrote.0; upper_bound = wrote.1 }
+
+pub returns : goal.returns
+returns c =
+    let wrote = c.write_wire.ensures in
+    record { wrote = wrote_as (otherwise _ _ _ c.if-assigned.false) wrote.0; upper_bound = omega (arith, wrote.1) }
