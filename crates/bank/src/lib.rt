@@ -1,6 +1,7 @@
 // Demand 3: compile, read and run, called one after another, with the claim of `bank_rules` as the promise. Rests on `compile`,
 // `netlist_read` and `netlist_run`, which are joined here by their contracts alone.
 #![tactic(auto)]
+
 ghost use Rattle.std.specs.Prelude.{◌≡◌};
 ghost use Rattle.compile_rules.specs.Compile.{compile_buffer};
 ghost use Rattle.bank_rules.specs.Claim.{Given, Claim, answers_of, outputs_after};

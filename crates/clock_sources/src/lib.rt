@@ -1,6 +1,7 @@
 // Document 01, "One vector every clock": where in the vector followed by the store each operand and output of a netlist is read, as
 // `clock_rules` has it; worked out once for a list of vectors. Rests on `clock_delays`.
 #![tactic(auto)]
+
 ghost use Rattle.std.specs.Prelude.{◌≡◌, ◌+◌, ◌≤◌, length};
 ghost use Rattle.limits.specs.Limits.{max_rows, max_columns, max_operations};
 ghost use Rattle.layout_rules.specs.Places.{head_length_in, head_at, netlist_in};

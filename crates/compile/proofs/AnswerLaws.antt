@@ -31,7 +31,7 @@ use Rattle.compile_rules.proofs.Counts.{length-outputs, negated_with_widths, net
 use Rattle.compile_rules.proofs.Operands.{EachOperation, OperationsInRange, operations_in_range, EachOutput, OutputsInRange, outputs_in_range}
 use Rattle.compile_rules.proofs.Netlist.{Narrow, operation_at_lem, output_at_lem}
 use Rattle.compile_rules.proofs.Narrow.{narrow}
-use Rattle.compile_rules.proofs.Compiled.{limits, compiled-inputs, answer-refused, buffer-refused}
+use Rattle.compile_rules.proofs.Compiled.{compiled-inputs, answer-refused, buffer-refused}
 use Rattle.compile_plan.proofs.PlanLaws.{within, limited, stepped, operations-most}
 
 -- ---- from each one to the one at an index

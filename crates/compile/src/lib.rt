@@ -1,6 +1,7 @@
 // Document 01, "Netlist and board machine": compile, from a matrix record and the sample width to the netlist's bytes, as
 // `compile_rules` has it. Rests on `compile_plan`, `compile_write`, `compile_lists` and `layout_head`.
 #![tactic(auto)]
+
 ghost use Rattle.std.specs.Prelude.{◌≡◌, length};
 ghost use Rattle.compile_lists.specs.Lists.{outputs_list};
 ghost use Rattle.compile_rules.specs.Compile.{negated_outputs, input_refusal, compile_answer, compile_buffer};

@@ -2,6 +2,7 @@
 // `verilog_lines`, and sees nothing of the elimination. The text is written to a buffer of its own and then copied, since refusal 6 is
 // known only once it is there.
 #![tactic(auto)]
+
 ghost use Rattle.std.specs.Prelude.{◌≡◌, map, ◌+◌, ◌*◌, ◌<◌, ◌≤◌, length, replicate};
 ghost use Rattle.limits.specs.Limits.{max_rows, max_columns, max_operations};
 ghost use Rattle.layout_rules.specs.Places.{head_length_in, head_at, operations_in, outputs_in, netlist_in};

@@ -1,6 +1,7 @@
 // Document 01, "Programs": what verilog-bank writes for a netlist, the text of its module or the line of the refusal. Rests on `verilog`
 // and `text`.
 #![tactic(auto)]
+
 ghost use Rattle.std.specs.Prelude.{◌≤◌, length};
 ghost use Rattle.text.specs.Wrote.{Wrote, PrefixLength};
 ghost use Rattle.verilog_rules.specs.Answer.{enough_text};

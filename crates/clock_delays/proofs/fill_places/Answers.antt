@@ -1,6 +1,6 @@
 -- `clock_delays::fill_places` meets its contract. The places of the symbols before one are in the table. Assumes nothing.
 use mathlib.Core.Path.{◌≡◌, sym, ap, ap₂, ◌∙◌}
-use Prim.Native.Nat.{ℕ, suc, ◌+◌, ◌-◌, ◌≤◌, ◌<◌}
+use Prim.Native.Nat.{ℕ, suc, ◌+◌, ◌≤◌, ◌<◌}
 use mathlib.Core.List.{List}
 use native.Mathlib.Omega.{arith}
 use native.Mathlib.Numerals.{add-one}
@@ -15,7 +15,7 @@ use Rattle.clock_rules.proofs.InBytes.{symbols-are, places_below, registers_boun
 use Rattle.netlist_read.specs.Tables.{NetlistRead}
 use Rattle.netlist_read.proofs.NetlistLaws.{head-limits}
 use Rattle.clock_delays.proofs.Entered.{symbols-few}
-use Rattle.clock_delays.proofs.Placed.{PlacesTo, places_started, first-place, places_next, place_next}
+use Rattle.clock_delays.proofs.Placed.{places_started, first-place, places_next, place_next}
 use Rattle.clock_delays.proofs.fill_places.Goals as goal
 use Rattle.clock_delays.proofs.fill_places.Lts
 use Rattle.clock_delays.proofs.fill_places.Reads

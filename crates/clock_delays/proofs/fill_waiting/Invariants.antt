@@ -1,11 +1,6 @@
 -- `clock_delays::fill_waiting` meets its contract. The symbols with delays before one are in the table. Assumes nothing.
 use Prim.Native.Nat.{◌-◌, ◌≤◌}
-use mathlib.Core.Path.{◌≡◌}
-use mathlib.Core.Logic.{⊎_elim}
-use native.Mathlib.Omega.{arith}
-use native.Mathlib.Numerals.{add-one}
 use Rattle.clock_rules.specs.Tables.{WaitingHeld}
-use Rattle.clock_delays.proofs.Waiting.{waiting_started, waiting-same, waiting_next}
 use Rattle.clock_delays.proofs.fill_waiting.Given as goal
 
 abbrev pub invariant-loop-symbol : goal.invariant-loop-symbol

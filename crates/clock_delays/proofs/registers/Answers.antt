@@ -36,7 +36,7 @@ module _ (c : Lts.Else1 Tie.the-claims Reads.Pre Reads.Post Tie.handed_clauses) 
   d = c.before.before
 
   abbrev depths : List ℕ
-  depths = d.netlist-read.new.depths.1.0
+  depths = d.netlist-read.new.depths
 
   N : NetlistRead (b d)
   N = (d.netlist-read.ensures.1 c.if-read-ne0.false).0.read

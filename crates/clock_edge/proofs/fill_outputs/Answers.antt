@@ -1,11 +1,11 @@
 -- `clock_edge::fill_outputs` meets its contract. The first i outputs are those of this clock. Assumes nothing.
 use mathlib.Core.Path.{◌≡◌, refl, sym, ap, ap₂, ◌∙◌, subst}
-use Prim.Native.Nat.{ℕ, ◌-◌, ◌^◌, ◌≤◌, ◌<◌}
+use Prim.Native.Nat.{ℕ, ◌^◌, ◌≤◌, ◌<◌}
 use mathlib.Core.List.{List, ◌++◌}
 use native.Mathlib.Omega.{arith}
 use native.Mathlib.Numerals.{add-one}
 use lib.IntN.{ℤ}
-use lib.ListN.{length, get_or, take, length-set}
+use lib.ListN.{get_or, take, length-set}
 use lib.Signed.{mag}
 use mir.Syntax.{w64}
 use mir.Val.{to_z, of_z}
@@ -19,7 +19,6 @@ use Rattle.board_rules.specs.Machine.{entry_at, shifted, with_sign}
 use Rattle.board_rules.specs.Table.{Small}
 use Rattle.netlist_read.specs.Tables.{NetlistRead}
 use Rattle.netlist_read.proofs.NetlistLaws.{head-limits, output-there}
-use Rattle.clock_rules.specs.Clocked.{present_output}
 use Rattle.clock_rules.specs.Tables.{OutputsHeld, StoreReady}
 use Rattle.clock_edge.proofs.EdgeLaws.{Readable, none_written, written_next, output_readable, output-is, outputs-written}
 use Rattle.clock_edge.proofs.fill_outputs.Goals as goal

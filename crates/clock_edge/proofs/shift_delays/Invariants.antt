@@ -1,18 +1,11 @@
 -- `clock_edge::shift_delays` meets its contract. What is left to do is the shift from the first symbol behind j entries on. Assumes nothing.
-use Prim.Native.Nat.{ℕ, zero, suc, ◌+◌, ◌-◌, ◌≤◌, ◌<◌}
-use mathlib.Core.Path.{◌≡◌, refl, sym, ◌∙◌, ap}
-use mathlib.Core.List.{List, ◌++◌}
-use native.Mathlib.Numerals.{add-one}
-use native.Mathlib.Omega.{arith}
+use Prim.Native.Nat.{ℕ, ◌+◌, ◌-◌, ◌≤◌}
+use mathlib.Core.Path.{◌≡◌}
+use mathlib.Core.List.{List}
 use lib.IntN.{ℤ}
-use lib.ListN.{length, get_or}
-use mir.Syntax.{w64}
-use Rattle.integers.proofs.Held.{call_result}
-use Rattle.limits.specs.Limits.{max_symbols}
-use Rattle.board_rules.specs.Machine.{entry_at}
-use Rattle.clock_rules.specs.InPlace.{shifted_in, shifted_by, delays_in}
-use Rattle.clock_rules.specs.Tables.{behind_entry, WaitingHeld}
-use Rattle.clock_rules.proofs.InPlace.{length-shifted_in, no_delays_in, none-shifted}
+use lib.ListN.{length}
+use Rattle.clock_rules.specs.InPlace.{shifted_by, delays_in}
+use Rattle.clock_rules.specs.Tables.{behind_entry}
 use Rattle.clock_edge.proofs.shift_delays.Given as goal
 
 -- the delays of the symbols below one are shifted; those of the others begin at a place and are within the store

@@ -1,15 +1,7 @@
 -- `clock_edge::shift_in` meets its contract. What is left to do is the shift from `at` on, of the value carried. Assumes nothing.
-use Prim.Native.Nat.{ℕ, suc, ◌+◌, ◌-◌, ◌≤◌, ◌<◌}
-use mathlib.Core.Path.{◌≡◌, refl, sym, ◌∙◌, ap}
-use mathlib.Core.List.{List}
-use native.Mathlib.Numerals.{add-one}
-use native.Mathlib.Omega.{arith}
-use lib.IntN.{ℤ}
-use lib.ListN.{length, set, length-set}
-use mir.Syntax.{w64}
-use mir.Val.{to_z, of_z}
-use Rattle.integers.proofs.Held.{is, held}
-use Rattle.board_rules.specs.Machine.{entry_at}
+use Prim.Native.Nat.{◌-◌, ◌≤◌}
+use mathlib.Core.Path.{◌≡◌}
+use lib.ListN.{length}
 use Rattle.clock_rules.specs.InPlace.{shifted_in}
 use Rattle.clock_edge.proofs.shift_in.Given as goal
 

@@ -1,11 +1,11 @@
 -- `clock_edge::work_out` meets its contract. The first k values are those of the first k operations. Assumes nothing.
 use mathlib.Core.Path.{◌≡◌, sym, ap, ap₂, ◌∙◌, subst}
-use Prim.Native.Nat.{ℕ, ◌+◌, ◌-◌, ◌^◌, ◌≤◌, ◌<◌}
+use Prim.Native.Nat.{ℕ, ◌^◌, ◌<◌}
 use mathlib.Core.List.{List, ◌++◌}
 use native.Mathlib.Omega.{arith}
 use native.Mathlib.Numerals.{add-one}
 use lib.IntN.{ℤ}
-use lib.ListN.{length, get_or, take, length-set}
+use lib.ListN.{get_or, take, length-set}
 use lib.Signed.{mag}
 use mir.Syntax.{w64}
 use mir.Val.{to_z, of_z}
@@ -19,7 +19,6 @@ use Rattle.board_rules.specs.Machine.{entry_at, shifted, joined}
 use Rattle.board_rules.specs.Table.{Small}
 use Rattle.netlist_read.specs.Tables.{NetlistRead}
 use Rattle.netlist_read.proofs.NetlistLaws.{head-limits, operation-there}
-use Rattle.clock_rules.specs.Clocked.{clocked_value}
 use Rattle.clock_rules.specs.Tables.{OperandsHeld, StoreReady}
 use Rattle.clock_rules.proofs.InBytes.{operations-after-first}
 use Rattle.clock_edge.proofs.EdgeLaws.{Readable, none_written, written_next, first_readable, second_readable, value-is}

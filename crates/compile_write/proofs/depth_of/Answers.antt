@@ -1,6 +1,6 @@
 -- `compile_write::depth_of` meets its contract. Assumes nothing.
 use native.Mathlib.Omega.{arith}
-use Prim.Native.Nat.{ℕ, ◌+◌, ◌-◌, ◌≤◌, ◌<◌, max}
+use Prim.Native.Nat.{ℕ, ◌+◌, ◌<◌, max}
 use mathlib.Core.Path.{◌≡◌, sym, ap, ap₂, ◌∙◌}
 use mathlib.Core.List.{List}
 use native.Mathlib.Numerals.{add-one}
@@ -10,7 +10,6 @@ use Rattle.limits.specs.Limits.{max_symbols}
 use Rattle.layout_rules.specs.declared.Operation.{Operation}
 use Rattle.elimination_rows.proofs.Filled.{front_same}
 use Rattle.board_rules.specs.Machine.{depth, operation_depth}
-use Rattle.board_rules.specs.Table.{HoldsDepths}
 use Rattle.board_rules.proofs.DepthLaws.{depth-none}
 use Rattle.board_rules.proofs.TableLaws.{depths_started}
 use Rattle.compile_lists.specs.Lists.{operations_list, no_operation}

@@ -1,26 +1,14 @@
 -- `compile_write::write_operations` meets its contract. Assumes nothing.
-use native.Mathlib.Omega.{arith}
-use Prim.Native.Nat.{ℕ, suc, ◌+◌, ◌-◌, ◌≤◌, ◌<◌}
-use mathlib.Core.Path.{◌≡◌, refl, sym, ap, ap₂, subst, ◌∙◌}
-use mathlib.Core.List.{List, flat_map}
-use native.Mathlib.Numerals.{add-one}
-use lib.IntN.{ℤ}
-use lib.ListN.{length, get_or, take, length-take, length-drop}
-use lib.Seq.{take_all, get_or-take}
-use Rattle.limits.specs.Limits.{max_symbols}
-use Rattle.elimination_rows.proofs.Filled.{front_same}
-use Rattle.layout_rules.specs.declared.Operation.{Operation}
-use Rattle.layout_rules.specs.Records.{operation_length, operation_bytes}
+use Prim.Native.Nat.{◌-◌, ◌≤◌}
+use mathlib.Core.Path.{◌≡◌}
+use mathlib.Core.List.{flat_map}
+use lib.ListN.{length, take}
+use Rattle.layout_rules.specs.Records.{operation_bytes}
 use Rattle.layout_rules.specs.Places.{operation_place}
 use Rattle.layout_rules.specs.Written.{written}
-use Rattle.layout_rules.proofs.Lengths.{length-operation}
-use Rattle.layout_rules.proofs.Written.{records_none}
-use Rattle.board_rules.specs.Table.{HoldsForms, form_appended}
-use Rattle.compile_lists.specs.Lists.{operations_list, no_operation}
+use Rattle.board_rules.specs.Table.{HoldsForms}
 use Rattle.compile_rules.specs.Compile.{with_widths}
-use Rattle.compile_rules.specs.Compiled.{compiled_limits}
-use Rattle.compile_write.specs.Tables.{Writable}
-use Rattle.compile_write.proofs.WriteLaws.{recorded_from, recorded-end, small-forms, small-range, holds_next, operation-written}
+use Rattle.compile_write.proofs.WriteLaws.{recorded_from}
 use Rattle.compile_write.proofs.write_operations.Given as goal
 
 abbrev pub invariant-loop-k : goal.invariant-loop-k

@@ -1,19 +1,13 @@
 -- `compile_write::write_outputs` meets its contract. Assumes nothing.
-use native.Mathlib.Omega.{arith}
-use Prim.Native.Nat.{ℕ, ◌-◌, ◌≤◌, ◌<◌}
-use mathlib.Core.Path.{◌≡◌, refl, sym, ap, subst, ◌∙◌}
-use mathlib.Core.List.{List, ◌++◌, flat_map, map}
-use native.Mathlib.Numerals.{add-one}
-use lib.ListN.{length, get_or, take, drop, length-take, length-drop}
-use Rattle.limits.specs.Limits.{max_symbols}
-use Rattle.layout_rules.specs.declared.Output.{Output}
-use Rattle.layout_rules.specs.Records.{output_length, output_bytes}
+use Prim.Native.Nat.{◌-◌, ◌≤◌}
+use mathlib.Core.Path.{◌≡◌}
+use mathlib.Core.List.{flat_map, map}
+use lib.ListN.{length, drop}
+use Rattle.layout_rules.specs.Records.{output_bytes}
 use Rattle.layout_rules.specs.Places.{operation_place, output_place}
 use Rattle.layout_rules.specs.Written.{written}
-use Rattle.board_rules.specs.Table.{SmallRange, output_row}
-use Rattle.compile_lists.specs.Lists.{outputs_list, no_output}
-use Rattle.compile_write.specs.Tables.{WritableOutputs, with_table_width}
-use Rattle.compile_write.proofs.WriteLaws.{output-written, outputs-written}
+use Rattle.compile_lists.specs.Lists.{outputs_list}
+use Rattle.compile_write.specs.Tables.{with_table_width}
 use Rattle.compile_write.proofs.write_outputs.Given as goal
 
 abbrev pub invariant-loop-i : goal.invariant-loop-i

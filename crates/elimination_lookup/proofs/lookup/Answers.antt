@@ -1,8 +1,6 @@
 -- `elimination_lookup::lookup` meets its contract. Assumes nothing.
-use Rattle.std.proofs.Common.{◌≡◌, ◌+◌, sym, ap, ◌∙◌, arith}
-use Rattle.elimination_lookup.specs.declared.Found.{Found}
-use Rattle.elimination_lookup.specs.Found.{found_in}
-use Rattle.elimination_lookup.proofs.Looking.{found_from, from_end, from_here, from_next}
+use Rattle.std.proofs.Common.{sym, ap, ◌∙◌, arith}
+use Rattle.elimination_lookup.proofs.Looking.{from_end, from_here, from_next}
 use Rattle.elimination_lookup.proofs.lookup.Goals as goal
 
 pub loop-place-preserved : goal.loop-place-preserved

@@ -1,5 +1,5 @@
 -- `market::comments_end` meets its contract. Assumes nothing.
-use Prim.Native.Nat.{ℕ, ◌+◌, ◌-◌, ◌≤◌}
+use Prim.Native.Nat.{ℕ, ◌+◌}
 use mathlib.Core.Path.{◌≡◌, refl, sym, ap, ◌∙◌}
 use mathlib.Core.Bool.{true}
 use mathlib.Core.List.{List}
@@ -9,7 +9,6 @@ use borrow.Author.Tests.{not-true, not-false}
 use Rattle.market_rules.specs.Lines.{line}
 use Rattle.market_rules.specs.Forms.{is_comment}
 use Rattle.market_rules.proofs.LineLaws.{line_part}
-use Rattle.market.specs.Parts.{comment_bytes}
 use Rattle.market.proofs.Comments.{comments-none, comments_stop, comments_next, comment_longer}
 use Rattle.market.proofs.comments_end.Goals as goal
 use Rattle.market.proofs.comments_end.Lts

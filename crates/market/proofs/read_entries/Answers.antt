@@ -1,5 +1,5 @@
 -- `market::read_entries` meets its contract. Assumes nothing.
-use Prim.Native.Nat.{ℕ, ◌+◌, ◌-◌, ◌≤◌}
+use Prim.Native.Nat.{ℕ, ◌+◌, ◌-◌}
 use mathlib.Core.Path.{◌≡◌, refl, sym, ap, ◌∙◌}
 use mathlib.Core.Bool.{true}
 use mathlib.Core.List.{List}
@@ -10,7 +10,7 @@ use Rattle.market_rules.specs.Lines.{lines, line}
 use Rattle.market_rules.specs.Forms.{is_entry, entry_value}
 use Rattle.market_rules.specs.Market.{leading_entry_count, twos_complement}
 use Rattle.market_rules.proofs.LineLaws.{line_part}
-use Rattle.market.proofs.Reading.{ReadSoFar, read_none, behind-within, read_all, read_stop, read_next}
+use Rattle.market.proofs.Reading.{read_none, behind-within, read_all, read_stop, read_next}
 use Rattle.market.proofs.read_entries.Goals as goal
 use Rattle.market.proofs.read_entries.Lts
 use Rattle.market.proofs.read_entries.Reads

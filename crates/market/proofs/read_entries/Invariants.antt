@@ -1,16 +1,8 @@
 -- `market::read_entries` meets its contract. Assumes nothing.
-use Prim.Native.Nat.{ℕ, ◌+◌, ◌-◌, ◌≤◌}
-use mathlib.Core.Path.{◌≡◌, refl, sym, ap, ◌∙◌}
-use mathlib.Core.Bool.{true}
-use mathlib.Core.List.{List}
-use native.Mathlib.Omega.{arith}
-use lib.ListN.{length, take, drop, length-set}
-use borrow.Author.Tests.{not-true, not-false}
-use Rattle.market_rules.specs.Lines.{lines, line}
-use Rattle.market_rules.specs.Forms.{is_entry, entry_value}
-use Rattle.market_rules.specs.Market.{leading_entry_count, twos_complement}
-use Rattle.market_rules.proofs.LineLaws.{line_part}
-use Rattle.market.proofs.Reading.{ReadSoFar, read_none, behind-within, read_all, read_stop, read_next}
+use Prim.Native.Nat.{◌-◌, ◌≤◌}
+use mathlib.Core.Path.{◌≡◌}
+use lib.ListN.{length}
+use Rattle.market.proofs.Reading.{ReadSoFar}
 use Rattle.market.proofs.read_entries.Given as goal
 
 abbrev pub invariant-loop-count : goal.invariant-loop-count

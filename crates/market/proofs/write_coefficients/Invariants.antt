@@ -1,16 +1,13 @@
 -- `market::write_coefficients` meets its contract. Assumes nothing.
-use Prim.Native.Nat.{ℕ, ◌*◌, ◌-◌, ◌≤◌, ◌<◌}
-use mathlib.Core.Path.{◌≡◌, refl, ap, ◌∙◌}
+use Prim.Native.Nat.{◌-◌, ◌≤◌}
+use mathlib.Core.Path.{◌≡◌}
 use mathlib.Core.List.{flat_map}
-use native.Mathlib.Omega.{arith}
 use lib.ListN.{length, get_or}
 use Rattle.layout_rules.specs.Bytes.{little_endian}
 use Rattle.layout_rules.specs.Matrix.{coefficient_place}
 use Rattle.layout_rules.specs.Places.{first_records}
 use Rattle.layout_rules.specs.Written.{written}
 use Rattle.market_rules.specs.Market.{entry_index}
-use Rattle.market_rules.proofs.MarketRecord.{within-number}
-use Rattle.market.proofs.Coefficients.{coefficients-none, coefficient_length, coefficient_next}
 use Rattle.market.proofs.write_coefficients.Given as goal
 
 abbrev pub invariant-loop-k : goal.invariant-loop-k

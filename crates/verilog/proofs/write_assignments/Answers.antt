@@ -9,35 +9,31 @@ use Rattle.verilog.proofs.write_assignments.Goals as goal
 
 pub write_operations-assigned-requires : goal.write_operations-assigned-requires
 write_operations-assigned-requires c =
-    let s = c in
-    let same = s.requires.netlist_read.1.0 in
-    record { netlist_read = (s.requires.netlist_read.0, s.requires.netlist_read.1.1); inputs_value = (ap (λ (h : Head). h.n) same, ap (λ (h : Head). h.operations) same); operations_in_bounds = omega arith }
+    let same = c.requires.netlist_read.1.0 in
+    record { netlist_read = (c.requires.netlist_read.0, c.requires.netlist_read.1.1); inputs_value = (ap (λ (h : Head). h.n) same, ap (λ (h : Head). h.operations) same); operations_in_bounds = omega arith }
 
 pub write_operations-requires : goal.write_operations-requires
 write_operations-requires c =
-    let s = c in
-    let same = s.requires.netlist_read.1.0 in record {
-  netlist_read = (s.requires.netlist_read.0, s.requires.netlist_read.1.1);
-  inputs_value = (ap (λ (h : Head). h.n) same, ap (λ (h : Head). h.operations) same);
-  operations_in_bounds = simp (length-take, length-drop) (omega arith);
-}
+    let same = c.requires.netlist_read.1.0 in record {
+      netlist_read = (c.requires.netlist_read.0, c.requires.netlist_read.1.1);
+      inputs_value = (ap (λ (h : Head). h.n) same, ap (λ (h : Head). h.operations) same);
+      operations_in_bounds = simp (length-take, length-drop) (omega arith);
+    }
 
 pub write_outputs-requires : goal.write_outputs-requires
 write_outputs-requires c =
-    let s = c in
-    let same = s.requires.netlist_read.1.0 in record {
-  netlist_read = (s.requires.netlist_read.0, s.requires.netlist_read.1.1);
-  inputs_value = (ap (λ (h : Head). h.n) same, (ap (λ (h : Head). h.operations) same, ap (λ (h : Head). h.m) same));
-  outputs_in_bounds = simp (length-take, length-drop) (omega arith);
-}
+    let same = c.requires.netlist_read.1.0 in record {
+      netlist_read = (c.requires.netlist_read.0, c.requires.netlist_read.1.1);
+      inputs_value = (ap (λ (h : Head). h.n) same, (ap (λ (h : Head). h.operations) same, ap (λ (h : Head). h.m) same));
+      outputs_in_bounds = simp (length-take, length-drop) (omega arith);
+    }
 
 pub returns : goal.returns
 returns c =
-    let s = c in
     let wires = c.write_operations-assigned in
     let assigned = c.write_operations in
     let outputs = c.write_outputs in record {
-  wrote = wrote_as (assignments_parts s.args.netlist.now s.args.head s.requires.netlist_read.1.0)
+      wrote = wrote_as (assignments_parts c.args.netlist.now c.args.head c.requires.netlist_read.1.0)
           (wrote_more (wrote_more wires.ensures.wrote assigned.ensures.wrote) outputs.ensures.wrote);
-  upper_bound = omega (arith, wires.ensures.upper_bound, assigned.ensures.upper_bound, outputs.ensures.upper_bound);
-}
+      upper_bound = omega (arith, wires.ensures.upper_bound, assigned.ensures.upper_bound, outputs.ensures.upper_bound);
+    }

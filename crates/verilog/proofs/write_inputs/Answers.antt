@@ -1,11 +1,10 @@
 -- `verilog::write_inputs` meets its contract. The loop's invariant: what is written and the lines left make the whole. Assumes nothing.
-use Prim.Native.Nat.{◌+◌, ◌*◌, ◌-◌, ◌≤◌}
+use Prim.Native.Nat.{◌+◌}
 use mathlib.Core.Path.{◌≡◌, refl}
 use native.Mathlib.Omega.{arith}
-use lib.ListN.{length, replicate, length-take, length-drop, length-replicate, get_or-replicate}
-use Rattle.text.proofs.Listed.{Listed, listed_start, listed_more, listed_end}
+use lib.ListN.{replicate, length-take, length-drop, length-replicate, get_or-replicate}
+use Rattle.text.proofs.Listed.{listed_start, listed_more, listed_end}
 use Rattle.verilog_rules.specs.Text.{input_line}
-use Rattle.verilog_lines.specs.Room.{longest_port_line}
 use Rattle.verilog.proofs.write_inputs.Goals as goal
 
 pub loop-column-init : goal.loop-column-init
@@ -35,7 +34,7 @@ pub returns : goal.returns
 returns c =
     let a = c.args in
     let l = c.loop-column in record {
-  wrote = listed_end (input_line a.ports) 0 (replicate a.inputs a.width) a.text.now l.invariant.0
+      wrote = listed_end (input_line a.ports) 0 (replicate a.inputs a.width) a.text.now l.invariant.0
           (omega (arith, c.loop-column-test.false, length-replicate a.inputs a.width));
-  upper_bound = omega arith;
-}
+      upper_bound = omega arith;
+    }

@@ -1,9 +1,8 @@
 -- `verilog::write_inputs` meets its contract. The loop's invariant: what is written and the lines left make the whole. Assumes nothing.
-use Prim.Native.Nat.{◌+◌, ◌*◌, ◌-◌, ◌≤◌}
-use mathlib.Core.Path.{◌≡◌, refl}
-use native.Mathlib.Omega.{arith}
-use lib.ListN.{length, replicate, length-take, length-drop, length-replicate, get_or-replicate}
-use Rattle.text.proofs.Listed.{Listed, listed_start, listed_more, listed_end}
+use Prim.Native.Nat.{◌*◌, ◌-◌, ◌≤◌}
+use mathlib.Core.Path.{◌≡◌}
+use lib.ListN.{length, replicate}
+use Rattle.text.proofs.Listed.{Listed}
 use Rattle.verilog_rules.specs.Text.{input_line}
 use Rattle.verilog_lines.specs.Room.{longest_port_line}
 use Rattle.verilog.proofs.write_inputs.Given as goal

@@ -1,6 +1,6 @@
 -- `verilog::write_module` meets its contract. Assumes nothing.
 use Prim.Native.Nat.{ℕ, ◌≤◌}
-use mathlib.Core.Path.{◌≡◌, refl, ap}
+use mathlib.Core.Path.{◌≡◌, ap}
 use mathlib.Core.List.{List}
 use native.Mathlib.Omega.{arith}
 use lib.ListN.{length-take, length-drop}
@@ -46,22 +46,20 @@ module _ (c : Lts.After-due_length Tie.the-claims Reads.Pre Reads.Post Tie.hande
 
 pub write_ports-wires-requires : goal.write_ports-wires-requires
 write_ports-wires-requires c =
-    let d = c in
-    record { netlist_read = ((s d.before.before).requires.netlist_read, (same d.before.before, d.due_length-start.ensures)); n_le_max_columns = limits d.before.before; ports_room_in_bounds = omega arith }
+    record { netlist_read = ((s c.before.before).requires.netlist_read, (same c.before.before, c.due_length-start.ensures)); n_le_max_columns = limits c.before.before; ports_room_in_bounds = omega arith }
 
 pub write_assignments-requires : goal.write_assignments-requires
 write_assignments-requires c =
-    let d = c in
-    record { netlist_read = ((s d.before.before.before.before.before.before).requires.netlist_read, (same d.before.before.before.before.before.before, d.due_length-start.ensures)); n_le_max_columns = limits d.before.before.before.before.before.before; assignments_room_in_bounds = simp (length-take, length-drop) (omega arith) }
+    let place = c.before.before.before.before.before.before in
+    record { netlist_read = ((s place).requires.netlist_read, (same place, c.due_length-start.ensures)); n_le_max_columns = limits place; assignments_room_in_bounds = simp (length-take, length-drop) (omega arith) }
 
 pub copy-requires : goal.copy-requires
 copy-requires c = simp (length-take, length-drop) (omega arith)
 
 pub returns : goal.returns
 returns c =
-    let d = c in
     let ports = c.write_ports-wires in
     let assignments = c.write_assignments in
     let end = c.copy in
-    wrote_as (module_parts (module_of (netlist_in (b d.before.before.before.before.before.before.before.before.before.before.before.before.before.before.before))))
+    wrote_as (module_parts (module_of (netlist_in (b c.before.before.before.before.before.before.before.before.before.before.before.before.before.before.before))))
     (wrote_more (wrote_more ports.ensures.wrote assignments.ensures.wrote) (wrote_copy _ (ascii "endmodule\n") _ _ end.ensures.count end.ensures.copied))

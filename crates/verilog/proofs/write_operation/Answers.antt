@@ -7,9 +7,9 @@ use Rattle.verilog.proofs.write_operation.Goals as goal
 pub returns-then-assigned : goal.returns-then-assigned
 returns-then-assigned c =
     let wrote = c.write_wire_assignment.ensures in
-    record { wrote = wrote_as (chosen _ _ _ c.if-assigned.true) wrote.0; upper_bound = wrote.1 }
+    record { wrote = wrote_as (chosen _ _ _ c.if-assigned.true) wrote.wrote; upper_bound = wrote.upper_bound }
 
 pub returns : goal.returns
 returns c =
     let wrote = c.write_wire.ensures in
-    record { wrote = wrote_as (otherwise _ _ _ c.if-assigned.false) wrote.0; upper_bound = omega (arith, wrote.1) }
+    record { wrote = wrote_as (otherwise _ _ _ c.if-assigned.false) wrote.wrote; upper_bound = omega (arith, wrote.upper_bound) }

@@ -1,9 +1,9 @@
 -- `verilog::write_operations` meets its contract. The loop's invariant: what is written and the lines left make the whole. Assumes nothing.
-use Prim.Native.Nat.{ℕ, ◌+◌, ◌*◌, ◌-◌, ◌≤◌, ◌<◌}
+use Prim.Native.Nat.{ℕ, ◌+◌, ◌<◌}
 use mathlib.Core.Path.{◌≡◌, refl, sym, ap, ◌∙◌}
 use mathlib.Core.List.{List}
 use native.Mathlib.Omega.{arith}
-use lib.ListN.{length, get_or, length-take, length-drop, get_or-map}
+use lib.ListN.{get_or, length-take, length-drop, get_or-map}
 use Rattle.limits.specs.Limits.{max_symbols}
 use Rattle.layout_rules.specs.Records.{operation_length, operation_of}
 use Rattle.layout_rules.specs.Places.{payload_of, operation_place, head_length_in, head_at, operation_at, operations_in}
@@ -11,9 +11,8 @@ use Rattle.layout_rules.proofs.FirstRecords.{get_d_first}
 use Rattle.layout_rules.proofs.InBytes.{length-due}
 use Rattle.netlist_read.specs.Tables.{NetlistRead}
 use Rattle.netlist_read.proofs.NetlistLaws.{head-limits, operation-there}
-use Rattle.text.proofs.Listed.{Listed, listed_start, listed_more, listed_end}
+use Rattle.text.proofs.Listed.{listed_start, listed_more, listed_end}
 use Rattle.verilog_rules.specs.Module.{wire_of}
-use Rattle.verilog_lines.specs.Room.{longest_wire_assignment}
 use Rattle.verilog.specs.Parts.{line_of_wire}
 use Rattle.verilog.proofs.Parts.{wires, length-wires}
 use Rattle.verilog.proofs.write_operations.Goals as goal
@@ -67,30 +66,28 @@ write_operation-at-requires c = simp (length-take, length-drop) (omega arith)
 
 pub loop-k-preserved : goal.loop-k-preserved
 loop-k-preserved c =
-    let o = c in
-    let d = o in
-    let a = (s d.before.before.before.before.before.before.before).args in
-    let l = d.loop-k in
-    let operations = operations_in (b d.before.before.before.before.before.before.before) in
+    let place = c.before.before.before.before.before.before.before in
+    let a = (s place).args in
+    let l = c.loop-k in
+    let operations = operations_in (b place) in
     let wrote = c.write_operation-at in
-    let stands : get_or operations (k d.before.before.before.before.before.before.before) o.operation_at-operation.result ≡ o.operation_at-operation.result =
-    get_d_first (operation_at (b d.before.before.before.before.before.before.before)) (head_at (b d.before.before.before.before.before.before.before)).operations (k d.before.before.before.before.before.before.before) _ (inside d.before.before.before.before.before.before.before) ∙ sym (read o.before.before.before.before.before) in (
-      listed_more (line_of_wire a.assigned a.inputs) a.inputs (wires (b d.before.before.before.before.before.before.before)) a.text.now l.invariant.0
-          (omega (arith, inside d.before.before.before.before.before.before.before, length-wires (b d.before.before.before.before.before.before.before)))
-          (get_or-map wire_of operations (k d.before.before.before.before.before.before.before) o.operation_at-operation.result ∙ ap wire_of stands)
+    let stands : get_or operations (k place) c.operation_at-operation.result ≡ c.operation_at-operation.result =
+    get_d_first (operation_at (b place)) (head_at (b place)).operations (k place) _ (inside place) ∙ sym (read c.before.before.before.before.before) in (
+      listed_more (line_of_wire a.assigned a.inputs) a.inputs (wires (b place)) a.text.now l.invariant.0
+          (omega (arith, inside place, length-wires (b place)))
+          (get_or-map wire_of operations (k place) c.operation_at-operation.result ∙ ap wire_of stands)
           refl
           wrote.ensures.wrote,
-      omega (arith, d.loop-k-test.true),
+      omega (arith, c.loop-k-test.true),
       omega (arith, wrote.ensures.upper_bound),
       omega arith,
     )
 
 pub returns : goal.returns
 returns c =
-    let s = c in
-    let a = s.args in
+    let a = c.args in
     let l = c.loop-k in record {
-  wrote = listed_end (line_of_wire a.assigned a.inputs) a.inputs (wires a.netlist.now) a.text.now l.invariant.0
-          (omega (arith, c.loop-k-test.false, length-wires a.netlist.now, s.requires.inputs_value.1));
-  upper_bound = omega arith;
-}
+      wrote = listed_end (line_of_wire a.assigned a.inputs) a.inputs (wires a.netlist.now) a.text.now l.invariant.0
+          (omega (arith, c.loop-k-test.false, length-wires a.netlist.now, c.requires.inputs_value.1));
+      upper_bound = omega arith;
+    }

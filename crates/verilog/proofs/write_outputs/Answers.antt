@@ -1,5 +1,5 @@
 -- `verilog::write_outputs` meets its contract. The loop's invariant: what is written and the lines left make the whole. Assumes nothing.
-use Prim.Native.Nat.{ℕ, ◌+◌, ◌*◌, ◌-◌, ◌≤◌, ◌<◌}
+use Prim.Native.Nat.{ℕ, ◌+◌, ◌≤◌, ◌<◌}
 use mathlib.Core.Path.{◌≡◌, refl, sym, ap, ap₂, ◌∙◌}
 use mathlib.Core.List.{List}
 use native.Mathlib.Omega.{arith}
@@ -10,9 +10,8 @@ use Rattle.layout_rules.proofs.FirstRecords.{length-first, get_d_first}
 use Rattle.layout_rules.proofs.InBytes.{length-due}
 use Rattle.netlist_read.specs.Tables.{NetlistRead}
 use Rattle.netlist_read.proofs.NetlistLaws.{head-limits, output-there}
-use Rattle.text.proofs.Listed.{Listed, listed_start, listed_more, listed_end}
+use Rattle.text.proofs.Listed.{listed_start, listed_more, listed_end}
 use Rattle.verilog_rules.specs.Module.{output_of}
-use Rattle.verilog_lines.specs.Room.{longest_output_assignment}
 use Rattle.verilog.specs.Parts.{line_of_output}
 use Rattle.verilog.proofs.Parts.{rows, length-rows}
 use Rattle.verilog.proofs.write_outputs.Goals as goal
@@ -74,31 +73,29 @@ write_output-at-requires c = record { row_bound = omega (arith, ports c.before.b
 
 pub loop-row-preserved : goal.loop-row-preserved
 loop-row-preserved c =
-    let o = c in
-    let d = o in
-    let a = (s d.before.before.before.before.before.before.before).args in
-    let l = d.loop-row in
-    let outputs = outputs_in (b d.before.before.before.before.before.before.before) in
+    let place = c.before.before.before.before.before.before.before in
+    let a = (s place).args in
+    let l = c.loop-row in
+    let outputs = outputs_in (b place) in
     let wrote = c.write_output-at in
-    let stands : get_or outputs (row d.before.before.before.before.before.before.before) o.output_at-output.result ≡ o.output_at-output.result =
-    get_d_first (output_at (b d.before.before.before.before.before.before.before) (length (operations_in (b d.before.before.before.before.before.before.before)))) (head_at (b d.before.before.before.before.before.before.before)).m (row d.before.before.before.before.before.before.before) _ (inside d.before.before.before.before.before.before.before) ∙ sym (read o.before.before.before.before.before) in
-    let numbered : row d.before.before.before.before.before.before.before ≡ 0 + row d.before.before.before.before.before.before.before = omega arith in (
-      listed_more (line_of_output a.assigned (a.inputs + a.outputs) a.inputs) 0 (rows (b d.before.before.before.before.before.before.before)) a.text.now l.invariant.0
-          (omega (arith, inside d.before.before.before.before.before.before.before, length-rows (b d.before.before.before.before.before.before.before)))
-          (get_or-map output_of outputs (row d.before.before.before.before.before.before.before) o.output_at-output.result ∙ ap output_of stands)
+    let stands : get_or outputs (row place) c.output_at-output.result ≡ c.output_at-output.result =
+    get_d_first (output_at (b place) (length (operations_in (b place)))) (head_at (b place)).m (row place) _ (inside place) ∙ sym (read c.before.before.before.before.before) in
+    let numbered : row place ≡ 0 + row place = omega arith in (
+      listed_more (line_of_output a.assigned (a.inputs + a.outputs) a.inputs) 0 (rows (b place)) a.text.now l.invariant.0
+          (omega (arith, inside place, length-rows (b place)))
+          (get_or-map output_of outputs (row place) c.output_at-output.result ∙ ap output_of stands)
           numbered
           wrote.ensures.wrote,
-      omega (arith, d.loop-row-test.true),
+      omega (arith, c.loop-row-test.true),
       omega (arith, wrote.ensures.upper_bound),
       omega arith,
     )
 
 pub returns : goal.returns
 returns c =
-    let s = c in
-    let a = s.args in
+    let a = c.args in
     let l = c.loop-row in record {
-  wrote = listed_end (line_of_output a.assigned (a.inputs + a.outputs) a.inputs) 0 (rows a.netlist.now) a.text.now l.invariant.0
-          (omega (arith, c.loop-row-test.false, length-rows a.netlist.now, s.requires.inputs_value.1.1));
-  upper_bound = omega arith;
-}
+      wrote = listed_end (line_of_output a.assigned (a.inputs + a.outputs) a.inputs) 0 (rows a.netlist.now) a.text.now l.invariant.0
+          (omega (arith, c.loop-row-test.false, length-rows a.netlist.now, c.requires.inputs_value.1.1));
+      upper_bound = omega arith;
+    }

@@ -13,8 +13,8 @@ use Rattle.verilog.proofs.write_verilog.Lts
 use Rattle.verilog.proofs.write_verilog.Reads
 use Rattle.verilog.proofs.write_verilog.Tie
 
-module _ (c : Lts.After-netlist Tie.the-claims Reads.Pre Reads.Post) where
-  abbrev s : Lts.Start Tie.the-claims Reads.Pre Reads.Post
+module _ (c : Lts.After-netlist Tie.the-claims Reads.Pre Reads.Post Tie.handed_clauses) where
+  abbrev s : Lts.Start Tie.the-claims Reads.Pre Reads.Post Tie.handed_clauses
   s = c.before.before.before.before.before.before.before
 
   abbrev b : List ℕ
@@ -24,11 +24,14 @@ module _ (c : Lts.After-netlist Tie.the-claims Reads.Pre Reads.Post) where
   buffer = s.args.buffer.now
 
 pub returns-then-read-ne0 : goal.returns-then-read-ne0
-returns-then-read-ne0 c = let d = c in declines (b d.before.before.before) (buffer d.before.before.before) d.netlist-read.result d.netlist-read.ensures.0 c.if-read-ne0.true
+returns-then-read-ne0 c =
+    let d = c.before.before.before in
+    let both = declines (b d) (buffer d) c.netlist-read.result c.netlist-read.ensures.0 c.if-read-ne0.true in
+    record { value = both.0; buffer_after = both.1 }
 
 -- the netlist is read
-module _ (c : Lts.Else1 Tie.the-claims Reads.Pre Reads.Post) where
-  abbrev d : Lts.After-netlist Tie.the-claims Reads.Pre Reads.Post
+module _ (c : Lts.Else1 Tie.the-claims Reads.Pre Reads.Post Tie.handed_clauses) where
+  abbrev d : Lts.After-netlist Tie.the-claims Reads.Pre Reads.Post Tie.handed_clauses
   d = c.before.before
 
   N : NetlistRead (b d)
@@ -38,8 +41,8 @@ pub write_module-written-requires : goal.write_module-written-requires
 write_module-written-requires c = record { netlist_read = N c.before.before.before; room_in_bounds = omega (arith, c.blank_text-text.ensures) }
 
 -- its text is written
-module _ (c : Lts.After-write_module Tie.the-claims Reads.Pre Reads.Post) where
-  abbrev e : Lts.Else1 Tie.the-claims Reads.Pre Reads.Post
+module _ (c : Lts.After-write_module Tie.the-claims Reads.Pre Reads.Post Tie.handed_clauses) where
+  abbrev e : Lts.Else1 Tie.the-claims Reads.Pre Reads.Post Tie.handed_clauses
   e = c.before.before.before
 
   abbrev text : List ℕ
@@ -53,9 +56,10 @@ module _ (c : Lts.After-write_module Tie.the-claims Reads.Pre Reads.Post) where
 
 pub returns-then-buffer-written : goal.returns-then-buffer-written
 returns-then-buffer-written c =
-    let w = c in
-    let D = d (e w.before.before.before) in
-    too_short (b D) (buffer D) (netlist_in (b D)) (N (e w.before.before.before)).netlist-read (blank w.before.before.before) (text w.before.before.before) w.write_module-written.result (wrote w.before.before.before) c.if-buffer-written.true
+    let place = c.before.before.before in
+    let D = d (e place) in
+    let both = too_short (b D) (buffer D) (netlist_in (b D)) (N (e place)).netlist-read (blank place) (text place) c.write_module-written.result (wrote place) c.if-buffer-written.true in
+    record { value = both.0; buffer_after = both.1 }
 
 pub slice_bounds-text-end : goal.slice_bounds-text-end
 slice_bounds-text-end c = (wrote_prefix (wrote c.before.before.before)).0
@@ -68,8 +72,9 @@ copy-requires c = omega (arith, (wrote_prefix (wrote c.before.before.before.befo
 
 pub returns : goal.returns
 returns c =
+    let place = c.before.before.before.before.before.before.before.before in
     let copy = c.copy in
-    let w = c in
-    let D = d (e w.before.before.before.before.before.before.before.before) in
-    copied (b D) (buffer D) (netlist_in (b D)) (N (e w.before.before.before.before.before.before.before.before)).netlist-read (blank w.before.before.before.before.before.before.before.before) (text w.before.before.before.before.before.before.before.before) w.write_module-written.result (wrote w.before.before.before.before.before.before.before.before)
-    _ copy.result c.if-buffer-written.false copy.ensures.count copy.ensures.copied
+    let D = d (e place) in
+    let both = copied (b D) (buffer D) (netlist_in (b D)) (N (e place)).netlist-read (blank place) (text place) c.write_module-written.result (wrote place)
+    _ copy.result c.if-buffer-written.false copy.ensures.count copy.ensures.copied in
+    record { value = both.0; buffer_after = both.1 }

@@ -1,6 +1,6 @@
 -- `layout_records::little_endian::signed_double_word` meets its contract. Assumes nothing.
 use mir.Syntax.{w32}
-use Rattle.layout_rules.proofs.TwosComplement.{signed_low, signed-high-fits, signed_high}
+use Rattle.layout_rules.proofs.TwosComplement.{signed_low, signed_high}
 use Rattle.layout_records.proofs.little_endian.signed_double_word.Goals as goal
 
 pub returns-then-x-lt2147483648 : goal.returns-then-x-lt2147483648

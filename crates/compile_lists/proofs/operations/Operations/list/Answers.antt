@@ -1,5 +1,4 @@
 -- `compile_lists::operations::Operations::list` meets its contract. Assumes nothing.
-use lib.ListN.{length-map}
 use Rattle.limits.specs.Limits.{max_operations}
 use Rattle.compile_lists.specs.Lists.{operations_list}
 use Rattle.elimination_rows.proofs.Filled.{filled_front}

@@ -1,6 +1,5 @@
 -- `compile_lists::outputs::Outputs::count` meets its contract. Assumes nothing.
 use native.Mathlib.Omega.{arith}
-use lib.ListN.{length-map}
 use Rattle.limits.specs.Limits.{max_rows}
 use Rattle.compile_lists.specs.Lists.{outputs_list}
 use Rattle.elimination_rows.proofs.Filled.{filled_under, filled-whole}

@@ -1,7 +1,6 @@
 -- `compile_lists::outputs::Outputs::output` meets its contract. Assumes nothing.
 use Prim.Native.Nat.{◌<◌}
 use native.Mathlib.Omega.{arith}
-use lib.ListN.{length-map}
 use Rattle.limits.specs.Limits.{max_rows}
 use Rattle.compile_lists.specs.Lists.{outputs_list, no_output}
 use Rattle.elimination_rows.proofs.Filled.{within, filled_at}

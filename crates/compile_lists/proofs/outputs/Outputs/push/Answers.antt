@@ -1,7 +1,6 @@
 -- `compile_lists::outputs::Outputs::push` meets its contract. Assumes nothing.
 use Prim.Native.Nat.{◌<◌}
 use native.Mathlib.Omega.{arith}
-use lib.ListN.{length-map}
 use Rattle.limits.specs.Limits.{max_rows}
 use Rattle.compile_lists.specs.Lists.{outputs_list}
 use Rattle.elimination_rows.proofs.Filled.{room, filled_more}
