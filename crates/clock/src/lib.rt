@@ -2,6 +2,7 @@
 // 12, 6, 15, 16, 21, as `clock_rules` has it. The netlist is read and its tables are filled once for the whole list. Rests on
 // `netlist_read`, `netlist_run` for the samples' test, `clock_delays`, `clock_sources` and `clock_edge`.
 #![tactic(auto)]
+
 ghost use Rattle.std.specs.Prelude.{◌≡◌, ◌++◌, ◌*◌, ◌≤◌, pos, length, drop, replicate};
 ghost use Rattle.limits.specs.Limits.{max_rows, max_operations};
 ghost use Rattle.limits.specs.Size.{SampleWidth};

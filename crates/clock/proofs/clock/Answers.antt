@@ -21,8 +21,8 @@ returns-then-read-ne0 c = let d = c in let s = c in
     record { value = kept.answer; store_after = kept.store_left; outputs_after = kept.outputs_left }
 
 -- the netlist is accepted
-module _ (c : Lts.Else1 Tie.the-claims Reads.Pre Reads.Post) where
-  abbrev d : Lts.After-netlist Tie.the-claims Reads.Pre Reads.Post
+module _ (c : Lts.Else1 Tie.the-claims Reads.Pre Reads.Post Tie.handed_clauses) where
+  abbrev d : Lts.After-netlist Tie.the-claims Reads.Pre Reads.Post Tie.handed_clauses
   d = c.before.before
 
   abbrev b : List ℕ

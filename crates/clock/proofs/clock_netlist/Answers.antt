@@ -22,7 +22,7 @@ use Rattle.clock.proofs.clock_netlist.Reads
 use Rattle.clock.proofs.clock_netlist.Tie
 
 -- at the start
-module _ (s : Lts.Start Tie.the-claims Reads.Pre Reads.Post) where
+module _ (s : Lts.Start Tie.the-claims Reads.Pre Reads.Post Tie.handed_clauses) where
   abbrev b : List ℕ
   b = s.args.netlist.now
 
@@ -39,8 +39,8 @@ pub due_length-start-requires : goal.due_length-start-requires
 due_length-start-requires c = let s = c in (head-there (b s.before.before.before) (N s.before.before.before)).1
 
 -- the head is read
-module _ (c : Lts.After-due_length Tie.the-claims Reads.Pre Reads.Post) where
-  abbrev S : Lts.Start Tie.the-claims Reads.Pre Reads.Post
+module _ (c : Lts.After-due_length Tie.the-claims Reads.Pre Reads.Post Tie.handed_clauses) where
+  abbrev S : Lts.Start Tie.the-claims Reads.Pre Reads.Post Tie.handed_clauses
   S = c.before.before.before
 
   abbrev head : Head
@@ -71,11 +71,11 @@ list_answer-answer-requires c = let d = c in let limits = head-limits (b (S d.be
     (omega (arith, m-is d.before.before.before.before.before.before.before.before.before.before.before, limits.limits.rows-most), subst (λ (h : Head). SampleWidth h.width) (sym (head-is d.before.before.before.before.before.before.before.before.before.before.before)) limits.width)
 
 -- the list is tested
-module _ (c : Lts.After-list_answer Tie.the-claims Reads.Pre Reads.Post) where
-  abbrev d : Lts.After-due_length Tie.the-claims Reads.Pre Reads.Post
+module _ (c : Lts.After-list_answer Tie.the-claims Reads.Pre Reads.Post Tie.handed_clauses) where
+  abbrev d : Lts.After-due_length Tie.the-claims Reads.Pre Reads.Post Tie.handed_clauses
   d = c.before.before.before.before.before.before.before.before.before.before.before
 
-  abbrev s : Lts.Start Tie.the-claims Reads.Pre Reads.Post
+  abbrev s : Lts.Start Tie.the-claims Reads.Pre Reads.Post Tie.handed_clauses
   s = S d
 
   abbrev total : ℕ
@@ -113,4 +113,4 @@ clock_list-requires c = let l = c in let t = s l.before.before.before.before.bef
 pub returns : goal.returns
 returns c = let l = c in let t = s l.before.before.before.before.before.before.before.before.before.before in let done = c.clock_list.ensures in
     let left = list_accepts (b t) t.args.samples.now t.args.store.now t.args.outputs.now (net t) (N t).netlist-read l.list_answer-answer.result (answer-is l.before.before.before.before.before.before.before.before.before.before) c.if-answer-ne0.false in
-    record { value = left.answer; store_after = done.0 ∙ left.store_left; outputs_after = done.1 ∙ left.outputs_left }
+    record { value = left.answer; store_after = done.store_after ∙ left.store_left; outputs_after = done.outputs_after ∙ left.outputs_left }

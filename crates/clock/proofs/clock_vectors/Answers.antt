@@ -156,18 +156,18 @@ module _ (c : Lts.In-loop Tie.the-claims Reads.Pre Reads.Post goal.the-invariant
 pub one_clock-requires : goal.one_clock-requires
 one_clock-requires c = let d = c in let s = S d.before.before.before.before.before.before in
     let size = part_length s.args.samples.now (l d.before.before.before.before.before.before).loop.from s.args.n (from-room d.before.before.before.before.before.before) in record {
-  netlist_read = (N s, (s.requires.netlist_read.1, s.requires.n_value.1.1));
-  longest_held = s.requires.longest_held;
-  waiting_held = rw size (l d.before.before.before.before.before.before).fill_waiting-entries.ensures;
-  store_ready = ready d.before.before.before.before.before.before;
-  values_len = ((l d.before.before.before.before.before.before).loop.invariant.0, part_length (l d.before.before.before.before.before.before).loop.outputs (l d.before.before.before.before.before.before).loop.to s.args.m (to_room d.before.before.before.before.before.before) ∙ m-is s);
-}
+      netlist_read = (N s, (s.requires.netlist_read.1, s.requires.n_value.1.1));
+      longest_held = s.requires.longest_held;
+      waiting_held = rw size (l d.before.before.before.before.before.before).fill_waiting-entries.ensures;
+      store_ready = ready d.before.before.before.before.before.before;
+      values_len = ((l d.before.before.before.before.before.before).loop.invariant.0, part_length (l d.before.before.before.before.before.before).loop.outputs (l d.before.before.before.before.before.before).loop.to s.args.m (to_room d.before.before.before.before.before.before) ∙ m-is s);
+    }
 
 pub overflow_add-from-in-loop : goal.overflow_add-from-in-loop
-overflow_add-from-in-loop c = overflow_add-from c.before.before.before.before.before.before.before
+overflow_add-from-in-loop c = omega (arith, from-room c.before.before.before.before.before.before.before.before.before)
 
 pub overflow_add-to-in-loop : goal.overflow_add-to-in-loop
-overflow_add-to-in-loop c = overflow_add-to c.before.before.before.before
+overflow_add-to-in-loop c = omega (arith, to_room c.before.before.before.before.before.before.before.before.before)
 
 pub loop-preserved : goal.loop-preserved
 loop-preserved c = let d = c in let s = S d.before.before.before.before.before.before.before.before.before in let a = s.args in let r = c.one_clock in rw add-one (
@@ -179,7 +179,7 @@ loop-preserved c = let d = c in let s = S d.before.before.before.before.before.b
 )
 
 pub shape_of-store : goal.shape_of-store
-shape_of-store c = c.loop.invariant.1.store_length
+shape_of-store c = c.loop.invariant.1.store_length_lem
 
 pub shape_of-outputs : goal.shape_of-outputs
 shape_of-outputs c = c.loop.invariant.1.outputs-length
@@ -187,6 +187,6 @@ shape_of-outputs c = c.loop.invariant.1.outputs-length
 pub returns : goal.returns
 returns c = let l = c in let s = l in let a = s.args in
     let g = l.loop.invariant.1 in record {
-  store_after = store_done (net s.before.before.before.before.before.before.before.before) a.n a.m a.clocks a.samples.now a.store.now a.outputs.now l.loop.store l.loop.outputs l.loop.from l.loop.to l.loop.counter g (omega arith) (outputs-all s.before.before.before.before.before.before.before.before);
-  outputs_after = outputs_done (net s.before.before.before.before.before.before.before.before) a.n a.m a.clocks a.samples.now a.store.now a.outputs.now l.loop.store l.loop.outputs l.loop.from l.loop.to l.loop.counter g (omega arith) (outputs-all s.before.before.before.before.before.before.before.before);
-}
+      store_after = store_done (net s.before.before.before.before.before.before.before.before) a.n a.m a.clocks a.samples.now a.store.now a.outputs.now l.loop.store l.loop.outputs l.loop.from l.loop.to l.loop.counter g (omega arith) (outputs-all s.before.before.before.before.before.before.before.before);
+      outputs_after = outputs_done (net s.before.before.before.before.before.before.before.before) a.n a.m a.clocks a.samples.now a.store.now a.outputs.now l.loop.store l.loop.outputs l.loop.from l.loop.to l.loop.counter g (omega arith) (outputs-all s.before.before.before.before.before.before.before.before);
+    }
