@@ -1,6 +1,7 @@
 // Document 01, "Programs": the text of list-bank for a matrix record and a sample width. Rests on `limits`, `layout_records`,
 // `compile` and `listing`.
 #![tactic(auto)]
+
 ghost use Rattle.std.specs.Prelude.{◌≤◌, length};
 ghost use Rattle.text.specs.Wrote.{Wrote, PrefixLength};
 ghost use Rattle.bank_text.specs.BankText.{bank_text, longest_bank_text, bank_text_in};

@@ -1,6 +1,7 @@
 // Document 01, "Programs": the text of burn-in, a line for each of 1,000 generated banks. Rests on `generator`, `compile`, `netlist_check`
 // and `text`.
 #![tactic(auto)]
+
 ghost use Rattle.std.specs.Prelude.{◌≡◌, ◌*◌, ◌≤◌, length};
 ghost use Rattle.layout_rules.specs.Matrix.{longest_record};
 ghost use Rattle.text.specs.Text.{longest_refused_line};

@@ -10,7 +10,7 @@ use lib.ListN.{length, take, drop, length-append, length-drop}
 use lib.Seq.{take_at, take_all, length-take-le}
 use Rattle.layout_rules.specs.Records.{Netlist}
 use Rattle.board_rules.specs.Machine.{Earlier}
-use Rattle.board_rules.specs.Width.{Samples, width}
+use Rattle.board_rules.specs.Width.{Samples}
 use Rattle.clock_rules.specs.Clocked.{present_outputs, edge, outputs_from, store_from, vectors_of, in_order}
 use Rattle.clock_rules.proofs.DelayLaws.{length-edge}
 use Rattle.clock_rules.proofs.Running.{Running, running_edge, vectors_left}

@@ -1,6 +1,7 @@
 // Document 01, "Programs": the text of clock-bank, a line of outputs a clock, each in decimal, one blank between two. Rests on `run_text` for
 // a number with its sign, on `text` and on `bytes`.
 #![tactic(auto)]
+
 pub mod lists; // lists.rt: clock, with the samples given as bytes
 
 ghost use Rattle.std.specs.Prelude.{◌≡◌, ◌+◌, ◌*◌, ◌≤◌, length};

@@ -1,6 +1,7 @@
 // Document 01, "Programs": what compile-bank writes for a matrix record and a sample width, the netlist's bytes or the line of the
 // refusal. Rests on `compile` and `text`.
 #![tactic(auto)]
+
 ghost use Rattle.std.specs.Prelude.{◌≤◌, length};
 ghost use Rattle.layout_rules.specs.Places.{enough_bytes};
 ghost use Rattle.text.specs.Wrote.{Wrote, PrefixLength};

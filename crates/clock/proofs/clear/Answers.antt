@@ -5,7 +5,7 @@ use mathlib.Core.List.{List, ◌++◌}
 use native.Mathlib.Numerals.{add-one}
 use native.Mathlib.Omega.{arith}
 use lib.IntN.{ℤ, pos}
-use lib.ListN.{length, set, drop, replicate, length-set, length-replicate}
+use lib.ListN.{length, set, drop, length-set, length-replicate}
 use lib.Seq.{sets, sets-eq}
 use Rattle.clock.proofs.clear.Goals as goal
 use Rattle.clock.proofs.clear.Invariants.{zeros}

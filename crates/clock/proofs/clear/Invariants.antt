@@ -1,12 +1,10 @@
 -- `clock::clear` meets its contract. What is left to write is zeros from i on. Assumes nothing.
-use Prim.Native.Nat.{ℕ, suc, ◌+◌, ◌-◌, ◌≤◌, ◌<◌}
-use mathlib.Core.Path.{◌≡◌, refl, ◌∙◌, ap}
-use mathlib.Core.List.{List, ◌++◌}
-use native.Mathlib.Numerals.{add-one}
-use native.Mathlib.Omega.{arith}
+use Prim.Native.Nat.{ℕ, ◌-◌, ◌≤◌}
+use mathlib.Core.Path.{◌≡◌}
+use mathlib.Core.List.{List}
 use lib.IntN.{ℤ, pos}
-use lib.ListN.{length, set, drop, replicate, length-set, length-replicate}
-use lib.Seq.{sets, sets-eq}
+use lib.ListN.{length, replicate}
+use lib.Seq.{sets}
 use Rattle.clock.proofs.clear.Given as goal
 
 abbrev pub zeros : ℕ → List ℤ

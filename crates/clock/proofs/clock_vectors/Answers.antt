@@ -8,7 +8,7 @@ use native.Mathlib.Omega.{arith}
 use lib.IntN.{ℤ}
 use lib.ListN.{length, take, drop, length-map, length-drop}
 use lib.Seq.{length-take-le, drop-drop}
-use Rattle.limits.specs.Limits.{max_operations, max_symbols}
+use Rattle.limits.specs.Limits.{max_symbols}
 use Rattle.layout_rules.specs.Records.{Netlist}
 use Rattle.layout_rules.specs.Places.{head_at, output_at, operations_in, outputs_in, netlist_in}
 use Rattle.layout_rules.proofs.FirstRecords.{length-first}

@@ -17,8 +17,8 @@ use Rattle.compile_output.proofs.write_output.Reads
 use Rattle.compile_output.proofs.write_output.Tie
 
 -- what is known once compile has answered
-module _ (c : Lts.After-compile Tie.the-claims Reads.Pre Reads.Post) where
-  abbrev known : Lts.After-shared_slice_known Tie.the-claims Reads.Pre Reads.Post
+module _ (c : Lts.After-compile Tie.the-claims Reads.Pre Reads.Post Tie.handed_clauses) where
+  abbrev known : Lts.After-shared_slice_known Tie.the-claims Reads.Pre Reads.Post Tie.handed_clauses
   known = c.before.before.before
 
   abbrev bytes : List ℕ
@@ -52,15 +52,15 @@ module _ (c : Lts.After-compile Tie.the-claims Reads.Pre Reads.Post) where
     netlist = netlist-written s bytes all old after c.compile-answer.result room c.compile-answer.ensures.value c.compile-answer.ensures.buffer_after accepted
 
 pub write_refused-requires : goal.write_refused-requires
-write_refused-requires c = omega (arith, c.compile-answer.auto.1.1.0, room c.before.before.before.before.before.before)
+write_refused-requires c = omega (arith, c.compile-answer.auto.buffer, room c.before.before.before.before.before.before)
 
 pub returns-then-answer-ne0 : goal.returns-then-answer-ne0
 returns-then-answer-ne0 c =
-    let k = c in
+    let place = c.before.before.before.before.before.before.before.before.before in
     let refused = c.if-answer-ne0.true in
     let w = c.write_refused.ensures in
-    subst (λ (l : List ℕ). Wrote l c.write_refused.new.text c.write_refused.result (compile_output (s k.before.before.before.before.before.before.before.before.before) (bytes k.before.before.before.before.before.before.before.before.before)))
-    (unchanged k refused) (wrote_as (line k refused) w.0)
+    subst (λ (l : List ℕ). Wrote l c.write_refused.new.text c.write_refused.result (compile_output (s place) (bytes place)))
+    (unchanged place refused) (wrote_as (line place refused) w.wrote)
 
 pub returns : goal.returns
-returns c = netlist c.before.before.before.before c.if-answer-ne0.false
+returns c = netlist c.before.before.before.before.before c.if-answer-ne0.false

@@ -9,8 +9,9 @@ use lib.ListN.{length}
 use borrow.Author.Tests.{le-leb, lt-leb}
 use Rattle.limits.specs.Limits.{max_rows}
 use Rattle.clock_text.specs.Lines.{line_there}
-use Rattle.clock_text.proofs.line_there.Statement.{statement}
-use Rattle.clock_text.proofs.line_there.Tie as tie
+use Rattle.clock_text.proofs.line_there.Goals as goal
+use Rattle.clock_text.proofs.line_there.Lts
+use Rattle.clock_text.proofs.line_there.Reads
 
 -- the tests in the code's order
 module _ (m outputs t : ℕ) where
@@ -26,27 +27,24 @@ module _ (m outputs t : ℕ) where
   unfolding line_there
   there h l = rw (le-leb m max_rows h, le-leb t outputs l, line_there) refl
 
-returns : tie.Need-returns
-returns c = let s = c.before in many-rows s.args.rows (length s.args.outputs.now) s.args.clock c.if1.true
+pub returns-then-rows-gt-MAX_ROWS : goal.returns-then-rows-gt-MAX_ROWS
+returns-then-rows-gt-MAX_ROWS c = let s = c in many-rows s.args.rows (length s.args.outputs.now) s.args.clock c.if-rows-gt-MAX_ROWS.true
 
-returns-2 : tie.Need-returns-2
-returns-2 c = let s = c.before.before in late s.args.rows (length s.args.outputs.now) s.args.clock (omega (arith, c.before.if1.false)) c.if2.true
+pub returns-then-clock-count : goal.returns-then-clock-count
+returns-then-clock-count c = let s = c in late s.args.rows (length s.args.outputs.now) s.args.clock (omega (arith, c.if-rows-gt-MAX_ROWS.false)) c.if-clock-count.true
 
-module _ (c : tie.Else2) where
-  abbrev s : tie.Start
+module _ (c : Lts.Else2 Reads.Pre Reads.Post) where
+  abbrev s : Lts.Start Reads.Pre Reads.Post
   s = c.before.before
 
   product : s.args.clock * s.args.rows ≤ length s.args.outputs.now * max_rows
   product = mul-le-mul (omega arith) (omega arith)
 
-mul-result : tie.Need-overflow-mul-result
-mul-result c = omega (arith, product c)
+pub overflow_mul-result : goal.overflow_mul-result
+overflow_mul-result c = omega (arith, product c)
 
-add-result : tie.Need-overflow-add-result
-add-result c = omega (arith, product c)
+pub overflow_add-result : goal.overflow_add-result
+overflow_add-result c = omega (arith, product c)
 
-returns-3 : tie.Need-returns-3
-returns-3 c = there (s c).args.rows (length (s c).args.outputs.now) (s c).args.clock (omega (arith, c.before.if1.false)) (omega (arith, c.if2.false))
-
-pub line-there-spec : {M : Type 1} → statement M
-line-there-spec = tie.close (tie.spec returns returns-2 mul-result add-result returns-3)
+pub returns : goal.returns
+returns c = there (s c).args.rows (length (s c).args.outputs.now) (s c).args.clock (omega (arith, c.if-rows-gt-MAX_ROWS.false)) (omega (arith, c.if-clock-count.false))

@@ -6,14 +6,15 @@ use mathlib.Core.List.{List}
 use lib.Dec.{leb}
 use lib.IntN.{ℤ}
 use lib.ListN.{length}
-use borrow.Author.Rules.{rules}
 use borrow.Author.Tests.{not-true, not-false}
 use Rattle.limits.specs.Limits.{max_rows}
 use Rattle.netlist_rules.proofs.Conditions.{and_says, at_most_says}
 use Rattle.clock_text.specs.declared.lists.Clocked.{Clocked}
 use Rattle.clock_text.specs.ListBytes.{most_samples, clocked_answer, outputs_after, fitting, clocked_in, outputs_in}
-use Rattle.clock_text.proofs.lists.clock_bytes.Statement.{statement}
-use Rattle.clock_text.proofs.lists.clock_bytes.Tie as tie
+use Rattle.clock_text.proofs.lists.clock_bytes.Goals as goal
+use Rattle.clock_text.proofs.lists.clock_bytes.Lts
+use Rattle.clock_text.proofs.lists.clock_bytes.Reads
+use Rattle.clock_text.proofs.lists.clock_bytes.Tie
 
 module _ (netlist bytes : List ℕ) (outputs : List ℤ) where
   abbrev nothing : Clocked
@@ -34,28 +35,18 @@ module _ (netlist bytes : List ℕ) (outputs : List ℤ) where
       (and_says (leb (length bytes) (4 * most_samples)) (leb (max_rows * most_samples) (length outputs)) (at_most_says (length bytes) (4 * most_samples))
       (at_most_says (max_rows * most_samples) (length outputs))).0
 
-list-fits-requires : tie.Need-list-fits-requires
-list-fits-requires c κs = search rules
+pub returns-then-not-list_fits : goal.returns-then-not-list_fits
+returns-then-not-list_fits c = let r = c in let a = r.args in
+    let p = not-fitting a.netlist.now a.bytes.now a.outputs.now (sym r.list_fits.ensures ∙ not-true _ c.if-not-list_fits.true-raw) in record { value = p.0; outputs_after = p.1 }
 
-returns : tie.Need-returns
-returns c = let r = c.before in let a = r.before.before.before.args in
-    not-fitting a.netlist.now a.bytes.now a.outputs.now (sym r.list-fits.ensures ∙ not-true _ c.if1.true)
+there : (c : Lts.Else1 Tie.the-claims Reads.Pre Reads.Post Tie.handed_clauses) → let a = c.args in fitting a.bytes.now (length a.outputs.now) ≡ true
+there c = sym c.list_fits.ensures ∙ not-false _ c.if-not-list_fits.false-raw
 
-there : (c : tie.Else1) → let a = c.before.before.before.before.args in fitting a.bytes.now (length a.outputs.now) ≡ true
-there c = sym c.before.list-fits.ensures ∙ not-false _ c.if1.false
+pub clock_fitting-requires : goal.clock_fitting-requires
+clock_fitting-requires c = let a = c.args in
+    bounds a.netlist.now a.bytes.now a.outputs.now (there c.before.before)
 
-clock-fitting-requires : tie.Need-clock-fitting-requires
-clock-fitting-requires c κs = let a = c.before.before.before.before.before.args in
-    bounds a.netlist.now a.bytes.now a.outputs.now (there c.before)
-
-same_length : tie.Need-same-length
-same_length c = search rules
-
-returns-2 : tie.Need-returns-2
-returns-2 c = let f = c.before.clock-fitting.ensures in let a = c.before.before.before.before.before.before.before.args in
-    let whole = fits a.netlist.now a.bytes.now a.outputs.now (there c.before.before.before) in
-    (f.0 ∙ whole.0, f.1 ∙ whole.1)
-
-pub clock-bytes-spec : {M : Type 1} → statement M
-clock-bytes-spec =
-    tie.close (tie.spec list-fits-requires returns clock-fitting-requires same_length returns-2)
+pub returns : goal.returns
+returns c = let f = c.clock_fitting.ensures in let a = c.args in
+    let whole = fits a.netlist.now a.bytes.now a.outputs.now (there c.before.before.before.before) in
+    record { value = f.value ∙ whole.0; outputs_after = f.outputs_after ∙ whole.1 }
