@@ -118,7 +118,7 @@ compiled-clocked s matrix_bytes buffer samples store outputs w bits long given =
 
 -- ---- no register wraps
 
--- whatever in_range vectors came before: an operation's register and its delays hold values that fit the operation's recorded width
+-- whatever in-range vectors came before: an operation's register and its delays hold values that fit the operation's recorded width
 pub register_fits : (net : Netlist) {l : Limits} (is : IsNetlist l net) (past : List (List ℤ)) → AllSamples net.head.width net.head.n past
     → (store : List ℤ) → StoreHolds net past store → (xs : List ℤ) → Samples net.head.width net.head.n xs
     → (before after : List Operation) (o : Operation) → net.operations ≡ before ++ o ∷ after

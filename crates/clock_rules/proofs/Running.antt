@@ -1,4 +1,4 @@
--- A store on its way through a list: it holds what in_range vectors left there, so that no value that is read wraps.
+-- A store on its way through a list: it holds what in-range vectors left there, so that no value that is read wraps.
 -- Assumes nothing.
 use Prim.Native.Nat.{ℕ, suc, ◌+◌, ◌*◌, ◌-◌, ◌≤◌, ◌<◌}
 use mathlib.Core.Path.{◌≡◌, ◌∙◌, ap}

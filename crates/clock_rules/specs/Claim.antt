@@ -12,7 +12,7 @@ use Rattle.clock_rules.specs.Delays.{netlist_depth, registers}
 use Rattle.clock_rules.specs.Answer.{registers_answer, vector_count, clock_answer, clock_outputs, clock_store}
 use Rattle.clock_rules.specs.Tests.{WholeVectors}
 
--- the bytes of a netlist, in_range samples in whole vectors, a store with room for the registers, and m outputs for each vector
+-- the bytes of a netlist, in-range samples in whole vectors, a store with room for the registers, and m outputs for each vector
 pub record GivenList (bytes : List ℕ) (net : Netlist) (samples store outputs : List ℤ) : Type 0 where
   pub netlist : IsNetlistBytes bytes net
   pub room : registers net ≤ length store
@@ -28,7 +28,7 @@ vector_of_clock net samples t = take net.head.n (drop (t * net.head.n) samples)
 abbrev pub output_of_clock : Netlist → List ℤ → ℕ → ℕ → ℤ
 output_of_clock net outputs t i = entry_at outputs (t * net.head.m + i)
 
--- "For every list of in_range vectors, one a clock, the output at clock t + depth, within the list, is run's for the vector of clock t, and
+-- "For every list of in-range vectors, one a clock, the output at clock t + depth, within the list, is run's for the vector of clock t, and
 -- outputs before clock depth are zero."
 pub record ClockedRun (bytes : List ℕ) (net : Netlist) (samples store outputs : List ℤ) : Type 0 where
   pub accepts : clock_answer bytes samples (length store) (length outputs) ≡ ran 0 0

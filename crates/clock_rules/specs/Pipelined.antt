@@ -1,4 +1,4 @@
--- Document 01, "One vector every clock": its promise. "For every list of in_range vectors, one a clock, the output at clock t + depth, within
+-- Document 01, "One vector every clock": its promise. "For every list of in-range vectors, one a clock, the output at clock t + depth, within
 -- the list, is run's for the vector of clock t, and outputs before clock depth are zero."
 -- Assumes nothing.
 use Rattle.std.specs.Prelude.{ℕ, ◌+◌, ◌<◌, ◌≡◌, List, [], ◌∷◌, ℤ, pos, length, get_or, replicate}

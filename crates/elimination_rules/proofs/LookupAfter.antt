@@ -108,7 +108,7 @@ without_pairs_is (p ∷ ps) r a =
     ∙ without_pairs_is ps (without (of_pair p) r) (without_ascending (of_pair p) r a)
     ∙ without_both (of_pairs ps) (of_pair p) r
 
--- ---- the terms of the pairs at the flagged co_divisors_lem
+-- ---- the terms of the pairs at the flagged co-divisors
 
 kept-is : (d : Divisor) (flags : List Bool) (r : Row) → kept_terms d flags r ≡ without (part_of_taken d flags) r
 unfolding kept_terms without
@@ -140,7 +140,7 @@ module _ (signs : Signs) (d : Divisor) where
   from_flag c (false ∷ flags) zero k h e = absurd (false≢true e)
   from_flag c (false ∷ flags) (suc i) k h e = from_flag (suc c) flags i k (omega arith) e
 
-  -- one of the pairs at the flagged co_divisors_lem
+  -- one of the pairs at the flagged co-divisors
   record Flagged (c : ℕ) (flags : List Bool) (p : Pair) : Type 0 where
     index : ℕ
     flagged : get_or flags index false ≡ true

@@ -30,7 +30,7 @@ divisor-proper p h = rw (divisor_in_order p h) (row-order-proper p h)
 pub pairs_proper : (r : Row) → Ascending r → (p : Pair) → Memᴰ p (pairs_of r) → Proper (divisor_of p)
 pairs_proper r a p m = divisor-proper p (pairs_in_order r a p m)
 
--- ---- the looked_up pair at a co-divisor
+-- ---- the looked-up pair at a co-divisor
 
 module _ (signs : Signs) (d : Divisor) (proper : Proper d) where
   pub pair_in_order : (c : ℕ) → InRowOrder (pair_at signs d c)
@@ -65,7 +65,7 @@ sign_back : (n : Bool) → eqb (sign_number n) 2 ≡ n
 sign_back true = refl
 sign_back false = refl
 
--- a term of the row is the looked_up one
+-- a term of the row is the looked-up one
 pub term_looked_up : (r : Row) → Ascending r → (t : Term) → Memᴰ t r → t ≡ term_at (sign_at r) t.symbol t.exponent
 term_looked_up r a t m =
     let n : eqb (sign_at r t.symbol t.exponent) 2 ≡ t.negative = ap (λ x. eqb x 2) (sign-of_term r a t m) ∙ sign_back t.negative in
@@ -81,7 +81,7 @@ term_there (t ∷ r) symbol exponent h =
     (λ e. let p = same_place_lem t u e in (t, mathlib.Core.List.Memᴰ.head refl, p.0, p.1))
     (λ e. let k = term_there r symbol exponent (λ z. h (sign_no t r u e ∙ z)) in (k.0, mathlib.Core.List.Memᴰ.tail k.1, k.2, k.3))
 
--- and it is the looked_up one
+-- and it is the looked-up one
 pub looked_up_there : (r : Row) → Ascending r → (symbol exponent : ℕ) → (sign_at r symbol exponent ≡ 0 → ⊥) → Memᴰ (term_at (sign_at r) symbol exponent) r
 looked_up_there r a symbol exponent h =
     let k = term_there r symbol exponent h in
@@ -97,7 +97,7 @@ none-there r symbol exponent h = by_bool (eqb (sign_at r symbol exponent) 0)
 pub none_past : (positions : ℕ) (r : Row) → ExponentsBelow positions r → (symbol exponent : ℕ) → positions ≤ exponent → sign_at r symbol exponent ≡ 0
 none_past positions r b symbol exponent h = none-there r symbol exponent (λ t m s e. omega (arith, b t m))
 
--- ---- occurrences are looked_up pairs
+-- ---- occurrences are looked-up pairs
 
 with_term : (w : Term) (r : Row) (t u : Term) → t ≡ w → Memᴰ u r → Memᴰ (record { first = t; second = u }) (pairs_with w r)
 unfolding pairs_with

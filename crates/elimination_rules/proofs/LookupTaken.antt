@@ -1,4 +1,4 @@
--- What is taken of a row in its order is what the flags say: the looked_up pairs at the flagged co_divisors_lem. So are the scores.
+-- What is taken of a row in its order is what the flags say: the looked-up pairs at the flagged co-divisors. So are the scores.
 -- Assumes nothing.
 use Prim.Native.Nat.{ℕ, zero, suc, ◌+◌, ◌-◌, ◌≤◌, ◌<◌}
 use mathlib.Core.Path.{◌≡◌, refl, sym, ◌∙◌, ap, ap₂}
@@ -53,7 +53,7 @@ pairs_ascend [] a = tt
 pairs_ascend (t ∷ r) a = ascend_append (pairs_with t r) (pairs_of r) (ascend_with t r a.1) (pairs_ascend r a.1)
     (λ p q m n. inl (rw (with_member t r p m).0 (a.0 q.first (pairs_member r q n).0)))
 
--- ---- so the co_divisors_lem of a divisor's occurrences ascend
+-- ---- so the co-divisors of a divisor's occurrences ascend
 
 abbrev pub CoDivisorsAscend : List Pair → Type 0
 CoDivisorsAscend [] = Unit {0}
@@ -96,7 +96,7 @@ pub occurrences_ascend : (d : Divisor) (r : Row) → Ascending r → CoDivisorsA
 unfolding row_order_occurrences
 occurrences_ascend d r a = rw (occurrences_in_order d r a) (ascend_filtered d (pairs_of r) (pairs_ascend r a) (pairs_in_order r a))
 
--- ---- so a divisor's occurrences are the looked_up pairs at the co_divisors_lem where it occurs
+-- ---- so a divisor's occurrences are the looked-up pairs at the co-divisors where it occurs
 
 -- whether it occurs at a co-divisor, from one on, for so many
 occurs_from : Signs → Divisor → ℕ → ℕ → List Bool
@@ -286,7 +286,7 @@ module _ (signs : Signs) (d : Divisor) (proper : Proper d) where
   unfolding overlaps_any taken_flags
   nothing_known k l = sym (ap (λ z. eqb d.a d.b && z) (and-false (leb d.eb k)) ∙ and-false (eqb d.a d.b))
 
--- what is taken of a row: the looked_up pairs at the flagged co_divisors_lem, in ascending order
+-- what is taken of a row: the looked-up pairs at the flagged co-divisors, in ascending order
 pub taken_looked_up : (positions : ℕ) (d : Divisor) → Proper d → (r : Row) → Ascending r → ExponentsBelow positions r
     → taken d r ≡ pairs_from (sign_at r) d 0 (taken_flags (sign_at r) d positions)
 unfolding taken pairs_from taken_flags

@@ -1,4 +1,4 @@
--- A negated row: its pairs are those of the row, negated; they have the same divisors, co_divisors_lem and overlaps, so the same are taken;
+-- A negated row: its pairs are those of the row, negated; they have the same divisors, co-divisors and overlaps, so the same are taken;
 -- and the row after a step is the row after it, negated.
 -- Assumes nothing.
 use Prim.Native.Nat.{ℕ, ◌+◌}

@@ -183,7 +183,7 @@ all-occurrences d r x o = member_sorted x (pairs_with_divisor d (pairs_of r)) (a
 pub occurrence_placed : (d : Divisor) (r : Row) → Ascending r → (x : Pair) → Occurrence d r x → Placed d x
 occurrence_placed d r a x o = placed d x (pairs_in_order r a x o.pair) o.divisor
 
--- ---- ascending co_divisors_lem
+-- ---- ascending co-divisors
 
 abbrev pub CoDivisorsRise : List Pair → Type 0
 CoDivisorsRise [] = Unit {0}

@@ -149,7 +149,7 @@ module _ (positions symbol : ℕ) (d : Divisor) (proper : Proper d) (r : Row) (w
   unfolding lookup_row_after flags
   in_parts s e = ap (λ z. sign_at z s e) (sym (row-after_looked_up positions symbol d proper r w.ascending w.exponents))
 
-  -- the new symbol: the co_divisors_lem of the taken occurrences, with the signs of their first terms
+  -- the new symbol: the co-divisors of the taken occurrences, with the signs of their first terms
   pub sign-after_new : (e : ℕ)
       → sign_at (row_after symbol d r) symbol e ≡ elim (get_or (taken_flags (sign_at r) d positions) e false) [ true ↦ sign_at r d.a (d.ea + e) | false ↦ 0 ]
   unfolding flags

@@ -1,4 +1,4 @@
--- Document 01, "Elimination": divisors, occurrences, co_divisors_lem and signs; overlap; what is taken; scores.
+-- Document 01, "Elimination": divisors, occurrences, co-divisors and signs; overlap; what is taken; scores.
 -- Assumes nothing.
 use Rattle.std.specs.Prelude.{ℕ, ◌+◌, ◌-◌, ◌^◌, min, Bool, true, false, not, ◌&&◌, ◌||◌, List, [], ◌∷◌, ◌++◌, leb, ltb, eqb, ℤ, pos, ◌+ℤ◌, ◌*ℤ◌, length}
 use Rattle.term.specs.declared.Term.{Term}

@@ -48,7 +48,7 @@ occurs_at signs d c = occurs_with d.minus (signs d.a (d.ea + c)) (signs d.b (d.e
 abbrev pub overlaps_taken : Divisor → List Bool → ℕ → Bool
 overlaps_taken d flags c = eqb d.a d.b && (leb d.eb c && get_or flags (c - d.eb) false)
 
--- whether the occurrence with co-divisor 0, 1, .. is taken, for so many co_divisors_lem
+-- whether the occurrence with co-divisor 0, 1, .. is taken, for so many co-divisors
 unfoldable pub taken_flags : Signs → Divisor → ℕ → List Bool
 taken_flags signs d zero = []
 taken_flags signs d (suc c) = let flags = taken_flags signs d c in flags ++ ((occurs_at signs d c && not (overlaps_taken d flags c)) ∷ [])
@@ -60,7 +60,7 @@ term_at signs symbol exponent = record { symbol = symbol; exponent = exponent; n
 abbrev pub pair_at : Signs → Divisor → ℕ → Pair
 pair_at signs d c = record { first = term_at signs d.a (d.ea + c); second = term_at signs d.b (d.eb + c) }
 
--- the occurrences at the flagged co_divisors_lem, from a co-divisor on
+-- the occurrences at the flagged co-divisors, from a co-divisor on
 unfoldable pub pairs_from : Signs → Divisor → ℕ → List Bool → List Pair
 pairs_from signs d c [] = []
 pairs_from signs d c (true ∷ flags) = pair_at signs d c ∷ pairs_from signs d (suc c) flags

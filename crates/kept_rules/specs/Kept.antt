@@ -45,7 +45,7 @@ best_entry first s (t ∷ table) = elim (better first t s) [ true ↦ best_entry
 abbrev pub signs_in : List Row → ℕ → Signs
 signs_in rows i = sign_at (get_or rows i [])
 
--- at one of the first co_divisors_lem there is an occurrence before and none after, or the reverse
+-- at one of the first co-divisors there is an occurrence before and none after, or the reverse
 unfoldable pub occurrence_changed : Signs → Signs → Divisor → ℕ → Bool
 occurrence_changed before after d zero = false
 occurrence_changed before after d (suc c) = differ (occurs_at before d c) (occurs_at after d c) || occurrence_changed before after d c
@@ -98,7 +98,7 @@ unfolding new_pairs
 new_pairs_from symbol i [] = []
 new_pairs_from symbol i (r ∷ rs) = all_in_row i (new_pairs symbol [] r) ++ new_pairs_from symbol (suc i) rs
 
--- a divisor occurs at none of the first co_divisors_lem
+-- a divisor occurs at none of the first co-divisors
 unfoldable pub occurs_nowhere : Signs → Divisor → ℕ → Bool
 occurs_nowhere signs d zero = true
 occurs_nowhere signs d (suc c) = not (occurs_at signs d c) && occurs_nowhere signs d c

@@ -53,7 +53,7 @@ pub each_member : (P : Term → Type 0) (r : Row) → ((t : Term) → Memᴰ t r
 each_member P [] h = tt
 each_member P (t ∷ r) h = (h t (Memᴰ.head refl), each_member P r (λ u m. h u (Memᴰ.tail m)))
 
--- the symbols of well_formed rows
+-- the symbols of well-formed rows
 pub symbols-below : (positions limit : ℕ) (rows : List Row) → EachRow (WellFormed positions limit) rows → EachRow (EachTerm (λ t. t.symbol < limit)) rows
 symbols-below positions limit [] w = tt
 symbols-below positions limit (r ∷ rows) w = (each_member (λ t. t.symbol < limit) r w.0.symbols, symbols-below positions limit rows w.1)

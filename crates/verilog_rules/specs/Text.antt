@@ -15,7 +15,7 @@ port_end ports port = cond (eqb port ports) (ascii "\n") (ascii ",\n")
 unfoldable pub input_line : ℕ → ℕ → ℕ → List ℕ
 input_line ports column width = ascii "  input signed [" ++ number (pred width) ++ ascii ":0] x" ++ number column ++ port_end ports (suc column)
 
--- output signed [WIDTH-1:0] y_r_o_w, behind so many inputs
+-- output signed [WIDTH-1:0] yROW, behind so many inputs
 unfoldable pub output_line : ℕ → ℕ → ℕ → Assignment → List ℕ
 output_line ports inputs row a =
     ascii "  output signed [" ++ number (pred a.width) ++ ascii ":0] y" ++ number row ++ port_end ports (inputs + suc row)
@@ -26,7 +26,7 @@ first_line ports = ascii "module bank (" ++ cond (eqb ports 0) [] (ascii "\n")
 
 -- ---- wires
 
--- wire signed [WIDTH-1:0] s_s_y_m_b_o_l;
+-- wire signed [WIDTH-1:0] sSYMBOL;
 unfoldable pub wire_line : ℕ → Assignment → List ℕ
 wire_line symbol a = ascii "  wire signed [" ++ number (pred a.width) ++ ascii ":0] s" ++ number symbol ++ ascii ";\n"
 
@@ -47,11 +47,11 @@ expression_text inputs (plain a) = operand_text inputs a
 expression_text inputs (negated a) = ascii "-" ++ operand_text inputs a
 expression_text inputs constant = ascii "1'sb0"
 
--- assign s_s_y_m_b_o_l = EXPRESSION;
+-- assign sSYMBOL = EXPRESSION;
 unfoldable pub wire_assignment : ℕ → ℕ → Assignment → List ℕ
 wire_assignment inputs symbol a = ascii "  assign s" ++ number symbol ++ ascii " = " ++ expression_text inputs a.expression ++ ascii ";\n"
 
--- assign y_r_o_w = EXPRESSION;
+-- assign yROW = EXPRESSION;
 unfoldable pub output_assignment : ℕ → ℕ → Assignment → List ℕ
 output_assignment inputs row a = ascii "  assign y" ++ number row ++ ascii " = " ++ expression_text inputs a.expression ++ ascii ";\n"
 
