@@ -6,7 +6,8 @@ ghost use Rattle.std.specs.Prelude.{◌≤◌, length};
 ghost use Rattle.text.specs.Wrote.{Wrote, PrefixLength};
 ghost use Rattle.bank_text.specs.BankText.{bank_text, longest_bank_text, bank_text_in};
 
-use layout_records::places::no_netlist;
+use arrays::filled;
+use layout_records::places::ENOUGH_BYTES;
 use limits::{MAX_OPERATIONS, MAX_ROWS};
 use listing_rules::{Counts, LONGEST_COUNTS_LINE, LONGEST_OPERATION_LINE, LONGEST_OUTPUT_LINE};
 
@@ -19,8 +20,9 @@ fn write_text(matrix: &[u8], sample_width: u8, text: &mut [u8]) -> usize
     requires { longest_bank_text ≤ length text.old }
     ensures { Wrote text.old text.new result (bank_text sample_width matrix.now) }
 {
-    let mut netlist = no_netlist();
+    let mut netlist: [u8; ENOUGH_BYTES] = filled(0);
     let answer = compile::compile(matrix, sample_width, &mut netlist);
+    // A number, since the documented call answers by `compile_answer`.
     if answer.refusal != 0 {
         return text::write_refused(answer.refusal, answer.place, text);
     }
@@ -41,6 +43,7 @@ pub fn write_bank(matrix: &[u8], sample_width: u8, text: &mut [u8]) -> usize
     ensures wrote { Wrote text.old text.new result (bank_text_in (length text.old) sample_width matrix.now) }
     ensures prefix_length { PrefixLength result text.new }
 {
+    // A closure that asks for room would need the whole equation again as its contract, for one `if`.
     if text.len() < ROOM {
         return 0;
     }

@@ -9,6 +9,7 @@ use native.Mathlib.Decide.{dec_lt, ℕ_discrete}
 use lib.IntN.{ℤ, pos}
 use lib.ListN.{length, get_or, set, take, drop, replicate, length-set, length-append, length-replicate}
 use lib.Seq.{sets, length-sets, drop-cons, get_or-set_same, get_or-set_other, get_or-take, take-suc-set}
+pub use Rattle.arrays.proofs.FilledLaws.{length-filled, take-filled}
 use Rattle.limits.specs.Limits.{max_columns, max_operations, max_symbols}
 use Rattle.layout_rules.specs.declared.Operation.{Operation}
 use Rattle.layout_rules.specs.declared.Output.{Output}
@@ -17,19 +18,6 @@ use Rattle.board_rules.specs.Table.{forms_length, filled, table_coefficient, row
 use Rattle.board_rules.proofs.MachineLaws.{machine_snoc, machine_keeps_after, machine-last, operation-same}
 use Rattle.board_rules.proofs.FormLaws.{length-unit, unit_other, entry_columns, output-columns, length-columns, columns_at, columns-same}
 use Rattle.board_rules.proofs.DepthLaws.{depths_snoc, depths_at_most}
-
--- ---- tables that were just made
-
-module _ {A : Type 0} (x : A) where
-  pub length-filled : (k : ℕ) → length (filled k x) ≡ k
-  unfolding filled
-  length-filled k = length-replicate k x
-
-  pub take-filled : (n k : ℕ) → n ≤ k → take n (filled k x) ≡ replicate n x
-  unfolding filled
-  take-filled zero k l = refl
-  take-filled (suc n) zero l = absurd (omega arith)
-  take-filled (suc n) (suc k) l = ap (λ (r : List A). x ∷ r) (take-filled n k (omega arith))
 
 -- ---- numbers written one after another
 

@@ -3,15 +3,12 @@
 -- Assumes nothing.
 use Rattle.std.specs.Prelude.{ℕ, zero, suc, ◌+◌, ◌*◌, ◌-◌, ◌^◌, ◌<◌, ◌≡◌, List, [], ◌∷◌, ℤ, pos, nat_abs, length, get_or, set, take, replicate}
 use Rattle.std.proofs.lemmas.List.Edits.{sets}
+unfoldable pub use Rattle.arrays.specs.Filled.{filled}
 use Rattle.limits.specs.Limits.{max_columns, max_symbols}
 use Rattle.layout_rules.specs.declared.Operation.{Operation}
 use Rattle.layout_rules.specs.declared.Output.{Output}
 use Rattle.board_rules.specs.Machine.{entry_at, shifted, joined, with_sign, operation_value, machine, depths, unit}
 use Rattle.board_rules.specs.Width.{positives, negatives}
-
--- a table of k places that all hold x
-unfoldable pub filled : {A : Type 0} → ℕ → A → List A
-filled k x = replicate k x
 
 -- ---- the coefficients: those of a symbol stand in a row of its own, which has a place for every column
 

@@ -1,12 +1,13 @@
 // Document 01, "Netlist and board machine": what an operation and an output make of earlier entries, and the tables of coefficients,
-// values and depths that are lent, as `board_rules` has them.
+// values and depths that are lent, as `board_rules` has them. The bounds of symbols and columns stay clauses: they are of plain numbers,
+// and a struct of table and columns would be made anew at each call.
 #![tactic(auto)]
 
-ghost use Rattle.std.specs.Prelude.{◌≡◌, ◌+◌, ◌*◌, ◌-◌, ◌≤◌, ◌<◌, pos, get_or};
+ghost use Rattle.std.specs.Prelude.{◌≡◌, ◌+◌, ◌*◌, ◌-◌, ◌≤◌, ◌<◌, get_or};
 ghost use Rattle.std.proofs.lemmas.List.Edits.{sets};
 ghost use Rattle.limits.specs.Limits.{max_columns, max_symbols};
 ghost use Rattle.board_rules.specs.Machine.{shifted, joined, with_sign, entry_at, operation_depth, unit};
-ghost use Rattle.board_rules.specs.Table.{filled, forms_length, Small, SmallForms, form_appended, forms_started, value_appended};
+ghost use Rattle.board_rules.specs.Table.{Small, SmallForms, form_appended, forms_started, value_appended};
 
 use board_rules::FORMS_LENGTH;
 use layout_rules::Operation;
@@ -83,13 +84,7 @@ pub fn operation_depth(depths: &[u16; MAX_SYMBOLS], o: Operation) -> u16
 {
     let a = o.a as usize;
     let b = o.b as usize;
-    let first = depths[a];
-    let second = depths[b];
-    if first < second {
-        second + 1
-    } else {
-        first + 1
-    }
+    depths[a].max(depths[b]) + 1
 }
 
 // One operation on board values: its value, at its symbol.
@@ -104,22 +99,4 @@ pub fn append_value(values: &mut [i64; MAX_SYMBOLS], o: Operation, symbol: usize
     let y = values[b];
     let z = combined(o.sign, x, o.sa, y, o.sb);
     values[symbol] = z;
-}
-
-pub fn blank_forms() -> [i64; FORMS_LENGTH]
-    ensures { result ≡ filled forms_length (pos 0) }
-{
-    [0; FORMS_LENGTH]
-}
-
-pub fn blank_values() -> [i64; MAX_SYMBOLS]
-    ensures { result ≡ filled max_symbols (pos 0) }
-{
-    [0; MAX_SYMBOLS]
-}
-
-pub fn blank_depths() -> [u16; MAX_SYMBOLS]
-    ensures { result ≡ filled max_symbols 0 }
-{
-    [0; MAX_SYMBOLS]
 }

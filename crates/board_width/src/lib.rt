@@ -1,8 +1,8 @@
 // Document 01, "Netlist and board machine": the width of an entry and of an output, from a lent table of coefficients, as `board_rules`
-// has it.
+// has it. The bounds of symbols, columns and bits stay clauses, since they are of plain numbers.
 #![tactic(auto)]
 
-ghost use Rattle.std.specs.Prelude.{◌≡◌, ◌+◌, ◌*◌, ◌-◌, ◌^◌, ◌≤◌, ◌<◌, max, pred};
+ghost use Rattle.std.specs.Prelude.{◌≡◌, ◌+◌, ◌*◌, ◌-◌, ◌^◌, ◌≤◌, ◌<◌};
 ghost use Rattle.limits.specs.Limits.{max_columns, max_symbols};
 ghost use Rattle.board_rules.specs.Width.{positive_part, negative_part, positives, negatives, bits, width_of, width};
 ghost use Rattle.board_rules.specs.Table.{SmallRange, row, output_row};
@@ -14,35 +14,23 @@ use limits::MAX_COLUMNS;
 pub fn positive_part(c: i64) -> u64
     ensures { result ≡ positive_part c }
 {
-    if c < 0 { 0 } else { c as u64 }
+    if c < 0 { 0 } else { c.unsigned_abs() }
 }
 
 pub fn negative_part(c: i64) -> u64
     ensures { result ≡ negative_part c }
 {
-    if c < 0 { (-1 - c) as u64 + 1 } else { 0 }
+    if c < 0 { c.unsigned_abs() } else { 0 }
 }
 
 // The smallest k with m below 2^k.
 fn bit_count(m: u64) -> u8
     ensures { result ≡ bits m }
 {
-    (64 - u64::leading_zeros(m)) as u8
+    (u64::BITS - m.leading_zeros()) as u8
 }
 
-fn larger(a: u64, b: u64) -> u64
-    ensures { result ≡ max a b }
-{
-    if a < b { b } else { a }
-}
-
-fn one_less(a: u64) -> u64
-    ensures { result ≡ pred a }
-{
-    if a == 0 { 0 } else { a - 1 }
-}
-
-// x times 2^shift, where that fits.
+// x times 2^shift, where that fits. `integers::shifted` is over the whole numbers; a generic shift would need a trait for one operator.
 pub fn scaled(x: u64, shift: u8) -> u64
     requires { (shift < 64) × (x * 2 ^ shift < 2 ^ 64) }
     ensures { result ≡ x * 2 ^ shift }
@@ -60,7 +48,7 @@ fn width_of(s: u8, p: u64, q: u64) -> u8
     let spread = scaled(p + q, s - 1);
     let high = spread - p;
     let low = spread - q;
-    let end = larger(high, one_less(low));
+    let end = high.max(low.saturating_sub(1));
     bit_count(end) + 1
 }
 

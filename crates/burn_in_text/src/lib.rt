@@ -8,8 +8,9 @@ ghost use Rattle.text.specs.Text.{longest_refused_line};
 ghost use Rattle.text.specs.Wrote.{Wrote, PrefixLength};
 ghost use Rattle.burn_in_text.specs.BurnInText.{outcome_text, burn_in_line, longest_burn_in_line, burn_in_lines, seed_step, seed_count, burn_in_text_in};
 
+use arrays::filled;
 use layout_matrix::LONGEST_RECORD;
-use layout_records::places::no_netlist;
+use layout_records::places::ENOUGH_BYTES;
 use limits::UNSTATED_WIDTH;
 
 // "seeds 0 to 999".
@@ -21,20 +22,15 @@ const LONGEST_LINE: usize = 26 + text::LONGEST_REFUSED_LINE;
 // The longest text.
 pub const ROOM: usize = LONGEST_LINE * SEED_COUNT;
 
-fn no_record() -> [u8; LONGEST_RECORD]
-    ensures { longest_record ≡ length result }
-{
-    [0; LONGEST_RECORD]
-}
-
 // What compile, for samples of 16 bits, and check say of a matrix record.
 fn write_outcome(matrix: &[u8], text: &mut [u8]) -> usize
     requires { longest_refused_line ≤ length text.old }
     ensures wrote { Wrote text.old text.new result (outcome_text matrix.now) }
     ensures upper_bound { result ≤ longest_refused_line }
 {
-    let mut netlist = no_netlist();
+    let mut netlist: [u8; ENOUGH_BYTES] = filled(0);
     let compiled = compile::compile(matrix, UNSTATED_WIDTH, &mut netlist);
+    // Numbers, since the documented calls answer by `compile_answer` and `check_answer`.
     if compiled.refusal != 0 {
         return text::write_refused(compiled.refusal, compiled.place, text);
     }
@@ -52,7 +48,7 @@ fn write_line(seed: u32, text: &mut [u8]) -> usize
     ensures wrote { Wrote text.old text.new result (burn_in_line seed) }
     ensures upper_bound { result ≤ longest_burn_in_line }
 {
-    let mut record = no_record();
+    let mut record: [u8; LONGEST_RECORD] = filled(0);
     generator::generate(8, 8, seed, &mut record); // its room is the record's, so it refuses none and fills all of it
     let at = text::write_between(b"seed ", seed as usize, b" ", text);
     at + write_outcome(&record, &mut text[at..])
@@ -67,12 +63,12 @@ fn write_lines(step: u32, text: &mut [u8]) -> usize
     let mut at: usize = 0;
     for _ in 0..SEED_COUNT {
         at += write_line(seed, &mut text[at..]);
-        seed = std::num::wrapping_add_u32(seed, step);
+        seed = seed.wrapping_add(step);
     }
     at
 }
 
-// By how much seeds go up.
+// By how much seeds go up: `burn_in_text_in` is told by a Bool, as the program is.
 fn seed_step(spread: bool) -> u32
     ensures { result ≡ seed_step spread }
 {
@@ -84,6 +80,7 @@ pub fn write_burn_in(spread: bool, text: &mut [u8]) -> usize
     ensures wrote { Wrote text.old text.new result (burn_in_text_in (length text.old) spread) }
     ensures prefix_length { PrefixLength result text.new }
 {
+    // A closure that asks for room would need the whole equation again as its contract, for one `if`.
     if text.len() < ROOM {
         return 0;
     }

@@ -1,7 +1,7 @@
 // What the writers and readers of bytes share: copying into the front of a buffer, and the search for a byte. Rests on nothing.
 #![tactic(auto)]
 
-ghost use Rattle.std.specs.Prelude.{◌≡◌, ◌+◌, ◌≤◌, ◌++◌, length, drop};
+ghost use Rattle.std.specs.Prelude.{◌≡◌, ◌+◌, ◌≤◌, ◌++◌, length, drop, position, ◌==◌};
 ghost use Rattle.byte_slices.specs.Search.{index_of, slice};
 
 // Copies all bytes into the front of a buffer, and returns how many they are.
@@ -15,15 +15,17 @@ pub fn copy(from: &[u8], to: &mut [u8]) -> usize
     count
 }
 
+// The index of the first byte that is wanted.
+fn first(bytes: &[u8], wanted: u8) -> Option<usize>
+    ensures { result ≡ position (λ b. b == wanted) bytes.now }
+{
+    bytes.iter().position(|byte| *byte == wanted)
+}
+
 // The index of the first byte from start on, and before end, that is wanted; end where there is none.
 pub fn find(bytes: &[u8], start: usize, end: usize, wanted: u8) -> usize
     requires { (start ≤ end) × (end ≤ length bytes.now) }
     ensures { result ≡ start + index_of wanted (slice start end bytes.now) }
 {
-    for i in start..end {
-        if bytes[i] == wanted {
-            return i;
-        }
-    }
-    end
+    first(&bytes[start..end], wanted).map_or(end, |place| start + place)
 }

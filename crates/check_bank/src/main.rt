@@ -6,8 +6,9 @@
 // answer.
 #![tactic(auto)]
 
-ghost use Rattle.std.specs.Prelude.{◌≡◌, ◌≤◌, length};
+ghost use Rattle.std.specs.Prelude.{◌≤◌};
 
+use arrays::filled;
 use layout_records::little_endian::word_at;
 use std::io;
 use std::io::{Read, Write};
@@ -19,14 +20,8 @@ const TOO_LONG: usize = 65536;
 // As much of a netlist as any answer needs.
 const NETLIST_ROOM: usize = 131072;
 
-fn no_netlist() -> [u8; NETLIST_ROOM]
-    ensures { 131072 ≡ length result }
-{
-    [0; NETLIST_ROOM]
-}
-
 fn check_matrix<R: Read, W: Write>(input: &mut R, output: &mut W, matrix: &[u8]) -> io::Result<()> {
-    let mut netlist = no_netlist();
+    let mut netlist: [u8; NETLIST_ROOM] = filled(0);
     let count = read_full(input, &mut netlist)?;
     let mut text = [0u8; check_text::ROOM];
     let written = check_text::write_check(matrix, &netlist[..count], &mut text);

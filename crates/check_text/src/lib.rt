@@ -15,6 +15,7 @@ fn write_text(matrix: &[u8], netlist: &[u8], text: &mut [u8]) -> usize
     ensures { Wrote text.old text.new result (check_text matrix.now netlist.now) }
 {
     let answer = netlist_check::check(matrix, netlist);
+    // A number, since the documented call answers by `check_answer`.
     if answer.refusal != 0 {
         return text::write_refused(answer.refusal, answer.place, text);
     }
@@ -26,6 +27,7 @@ pub fn write_check(matrix: &[u8], netlist: &[u8], text: &mut [u8]) -> usize
     ensures wrote { Wrote text.old text.new result (check_text_in (length text.old) matrix.now netlist.now) }
     ensures prefix_length { PrefixLength result text.new }
 {
+    // A closure that asks for room would need the whole equation again as its contract, for one `if`.
     if text.len() < ROOM {
         return 0;
     }

@@ -5,11 +5,11 @@ use mathlib.Core.Path.{◌≡◌, refl, ap, ◌∙◌}
 use mathlib.Core.Logic.{⊎_elim}
 use mathlib.Core.List.{List}
 use native.Mathlib.Omega.{arith}
-use lib.ListN.{length, get_or, set, length-set}
-use lib.Seq.{get_or-set_same, get_or-set_other}
+use lib.ListN.{length, get_or, set, take, length-set}
+use lib.Seq.{get_or-set_same, get_or-set_other, get_or-take, length-take-le}
 use Rattle.limits.specs.Limits.{max_symbols}
 use Rattle.layout_rules.proofs.FirstRecords.{last_or_earlier}
-use Rattle.clock_rules.specs.Tables.{behind_entry, NoDelays, WaitingHeld}
+use Rattle.clock_rules.specs.Tables.{behind_entry, NoDelays, WaitingHeld, WaitingSymbols}
 
 module _ (longest waiting : List ℕ) where
   pub waiting_started : length waiting ≡ max_symbols → WaitingHeld longest 0 waiting 0
@@ -70,3 +70,20 @@ module _ (longest waiting : List ℕ) where
             (rw (behind-same entries (omega arith), here) W.behind);
         behind = λ s l u. absurd (omega (arith, here));
       }
+
+-- the entries alone, behind which the table has nothing to say
+pub waiting-taken : (longest waiting : List ℕ) (symbols entries : ℕ) → WaitingHeld longest symbols waiting entries → entries ≤ length waiting → WaitingSymbols longest symbols (take entries waiting)
+waiting-taken longest waiting symbols entries W fits = record {
+  few = omega (arith, size, W.few);
+  ascending = λ j h. let l : j < entries = omega (arith, size) in rw (behind-is j (omega arith), get_or-take entries waiting j 0 l) (W.ascending j l);
+  below = λ j h. let l : j < entries = omega (arith, size) in rw (get_or-take entries waiting j 0 l) (W.below j l);
+  between = λ j h. let l : j < entries = omega (arith, size) in rw (behind-is j (omega arith), get_or-take entries waiting j 0 l) (W.between j l);
+  behind = rw (size, behind-is entries (omega arith)) W.behind;
+}
+  where
+    size : length (take entries waiting) ≡ entries
+    size = length-take-le entries waiting fits
+
+    behind-is : (j : ℕ) → j ≤ entries → behind_entry (take entries waiting) j ≡ behind_entry waiting j
+    behind-is zero h = refl
+    behind-is (suc j) h = ap suc (get_or-take entries waiting j 0 h)

@@ -1,150 +1,81 @@
 // Document 01, "One vector every clock": the longest delay of each symbol of a netlist, the places of the delays in the store, the symbols
-// with delays, and the total of the registers, as `clock_rules` has them. Rests on `netlist_read` and on `layout_head`.
+// with delays, and the total of the registers, as `clock_rules` has them. Rests on `netlist_read`.
 #![tactic(auto)]
 
-ghost use Rattle.std.specs.Prelude.{◌≡◌, [], ◌∷◌, ◌-◌, ◌≤◌, ◌<◌, length, get_or};
+pub mod depths; // depths.rt: a netlist with the depths of its symbols
+
+ghost use Rattle.std.specs.Prelude.{◌≡◌, [], ◌∷◌, ◌≤◌, ◌<◌, length, IfOk, IfErr};
 ghost use Rattle.limits.specs.Limits.{max_symbols};
-ghost use Rattle.layout_rules.specs.Places.{head_length_in, head_at, netlist_in};
+ghost use Rattle.layout_rules.specs.Places.{netlist_in};
 ghost use Rattle.board_rules.specs.Table.{filled};
-ghost use Rattle.netlist_read.specs.Tables.{NetlistRead};
-ghost use Rattle.clock_rules.specs.Delays.{delay_by, netlist_depth, operand_delays, registers};
-ghost use Rattle.clock_rules.specs.Tables.{SymbolDepths, entered, LongestHeld, PlacesHeld, WaitingHeld};
+ghost use Rattle.clock_rules.specs.Delays.{operand_delays, registers};
+ghost use Rattle.clock_rules.specs.Tables.{entered, LongestHeld, PlacesHeld, WaitingHeld};
 ghost use Rattle.clock_rules.specs.Answer.{registers_answer};
+ghost use Rattle.netlist_rules.specs.Read.{refused, read_netlist};
+ghost use Rattle.refusals.specs.Numbers.{number};
 
-use clock_rules::RegistersAnswer;
-use layout_head::due_length;
-use layout_records::places::{operation_place, output_place};
-use layout_records::read::{operation_at, output_at};
+use arrays::filled;
+use board_rules::FORMS_LENGTH;
+use clock_rules::{Delay, RegistersAnswer};
+use depths::NetlistDepths;
 use limits::MAX_SYMBOLS;
-
-pub fn blank_table() -> [usize; MAX_SYMBOLS]
-    ensures { result ≡ filled max_symbols 0 }
-{
-    [0; MAX_SYMBOLS]
-}
+use netlist_read::accepted::Netlist;
+use refusals::Refused;
 
 // ---- longest delays
 
 // One delay, where it is longer than those of its symbol before.
-fn enter(longest: &mut [usize; MAX_SYMBOLS], symbol: usize, clocks: usize)
-    requires { (symbol < max_symbols) × (length longest.old ≡ max_symbols) }
-    ensures { longest.new ≡ entered longest.old (delay_by symbol clocks ∷ []) }
+fn enter(longest: &mut [usize; MAX_SYMBOLS], delay: Delay)
+    requires { (delay.symbol < max_symbols) × (length longest.old ≡ max_symbols) }
+    ensures { longest.new ≡ entered longest.old (delay ∷ []) }
 {
-    let before = longest[symbol];
-    longest[symbol] = if before < clocks { clocks } else { before };
-}
-
-// A depth as a number of clocks.
-fn clocks_of(depth: u16) -> usize
-    ensures { result ≡ depth }
-{
-    depth as usize
-}
-
-// By how many clocks an operand waits for its operation.
-pub fn operand_delay(depths: &[u16; MAX_SYMBOLS], operation: usize, operand: usize) -> usize
-    requires operation_lt_max_symbols { (operation < max_symbols) × ((operand < max_symbols) × (length depths.now ≡ max_symbols)) }
-    requires operand_bound { get_or depths.now operand 0 < get_or depths.now operation 0 }
-    ensures { result ≡ get_or depths.now operation 0 - 1 - get_or depths.now operand 0 }
-{
-    let later = clocks_of(depths[operation]);
-    let earlier = clocks_of(depths[operand]);
-    later - 1 - earlier
-}
-
-// By how many clocks an output that is not zero waits for the deepest symbol.
-pub fn output_delay(depths: &[u16; MAX_SYMBOLS], depth: usize, symbol: usize) -> usize
-    requires symbol_lt_max_symbols { (symbol < max_symbols) × (length depths.now ≡ max_symbols) }
-    requires symbol_bound { get_or depths.now symbol 0 ≤ depth }
-    ensures { result ≡ depth - get_or depths.now symbol 0 }
-{
-    let earlier = clocks_of(depths[symbol]);
-    depth - earlier
+    longest[delay.symbol] = longest[delay.symbol].max(delay.clocks);
 }
 
 // The delays of both operands of all operations.
-fn enter_operations(
-    netlist: &[u8],
-    start: usize,
-    n: usize,
-    operations: usize,
-    depths: &[u16; MAX_SYMBOLS],
-    longest: &mut [usize; MAX_SYMBOLS],
-)
-    requires netlist_read { NetlistRead netlist.now × (start ≡ head_length_in netlist.now) }
-    requires n_value { (n ≡ (head_at netlist.now).n) × (operations ≡ (head_at netlist.now).operations) }
-    requires symbol_depths { SymbolDepths (netlist_in netlist.now) depths.now × (longest.old ≡ filled max_symbols 0) }
-    ensures { longest.new ≡ entered (filled max_symbols 0) (operand_delays (netlist_in netlist.now) n (netlist_in netlist.now).operations) }
+fn enter_operations(depths: &NetlistDepths, longest: &mut [usize; MAX_SYMBOLS])
+    requires { longest.old ≡ filled max_symbols 0 }
+    ensures { longest.new ≡ entered (filled max_symbols 0) (operand_delays (netlist_in depths.now.netlist.bytes.now) (netlist_in depths.now.netlist.bytes.now).head.n (netlist_in depths.now.netlist.bytes.now).operations) }
 {
-    for k in 0..operations {
-        let o = operation_at(netlist, operation_place(start, k));
-        let a = o.a as usize;
-        let b = o.b as usize;
-        enter(longest, a, operand_delay(depths, n + k, a));
-        enter(longest, b, operand_delay(depths, n + k, b));
+    for k in 0..depths.netlist.operations() {
+        let (first, second) = depths.operand_delays(k);
+        enter(longest, first);
+        enter(longest, second);
     }
 }
 
-// The delays of all outputs that are not zero, behind those of the operands.
-fn enter_outputs(
-    netlist: &[u8],
-    start: usize,
-    m: usize,
-    operations: usize,
-    depth: usize,
-    depths: &[u16; MAX_SYMBOLS],
-    longest: &mut [usize; MAX_SYMBOLS],
-)
-    requires netlist_read { NetlistRead netlist.now × (start ≡ head_length_in netlist.now) }
-    requires m_value { (m ≡ (head_at netlist.now).m) × ((operations ≡ (head_at netlist.now).operations) × (depth ≡ netlist_depth (netlist_in netlist.now))) }
-    requires symbol_depths { SymbolDepths (netlist_in netlist.now) depths.now }
-    requires longest_value { longest.old ≡ entered (filled max_symbols 0) (operand_delays (netlist_in netlist.now) (head_at netlist.now).n (netlist_in netlist.now).operations) }
-    ensures { LongestHeld (netlist_in netlist.now) longest.new }
+// The delays of all outputs, behind those of the operands.
+fn enter_outputs(depths: &NetlistDepths, longest: &mut [usize; MAX_SYMBOLS])
+    requires { longest.old ≡ entered (filled max_symbols 0) (operand_delays (netlist_in depths.now.netlist.bytes.now) (netlist_in depths.now.netlist.bytes.now).head.n (netlist_in depths.now.netlist.bytes.now).operations) }
+    ensures { LongestHeld (netlist_in depths.now.netlist.bytes.now) longest.new }
 {
-    for i in 0..m {
-        let o = output_at(netlist, output_place(start, operations, i));
-        let symbol = o.symbol as usize;
-        if o.sign != 2 {
-            enter(longest, symbol, output_delay(depths, depth, symbol));
-        }
+    for i in 0..depths.netlist.m() {
+        enter(longest, depths.output_delay(i));
     }
 }
 
 // The longest delay of each symbol.
-pub fn fill_longest(
-    netlist: &[u8],
-    start: usize,
-    n: usize,
-    m: usize,
-    operations: usize,
-    depth: usize,
-    depths: &[u16; MAX_SYMBOLS],
-    longest: &mut [usize; MAX_SYMBOLS],
-)
-    requires netlist_read { NetlistRead netlist.now × (start ≡ head_length_in netlist.now) }
-    requires n_value { (n ≡ (head_at netlist.now).n) × ((m ≡ (head_at netlist.now).m) × (operations ≡ (head_at netlist.now).operations)) }
-    requires depth_value { (depth ≡ netlist_depth (netlist_in netlist.now)) × (SymbolDepths (netlist_in netlist.now) depths.now × (longest.old ≡ filled max_symbols 0)) }
-    ensures { LongestHeld (netlist_in netlist.now) longest.new }
+pub fn fill_longest(depths: &NetlistDepths, longest: &mut [usize; MAX_SYMBOLS])
+    requires { longest.old ≡ filled max_symbols 0 }
+    ensures { LongestHeld (netlist_in depths.now.netlist.bytes.now) longest.new }
 {
-    enter_operations(netlist, start, n, operations, depths, longest);
-    enter_outputs(netlist, start, m, operations, depth, depths, longest);
+    enter_operations(depths, longest);
+    enter_outputs(depths, longest);
 }
 
 // ---- places
 
 // The places of the delays of each symbol, behind the operations' registers, and the total of the registers.
 pub fn fill_places(
-    netlist: &[u8],
-    n: usize,
-    operations: usize,
+    netlist: &Netlist,
     longest: &[usize; MAX_SYMBOLS],
     places: &mut [usize; MAX_SYMBOLS],
 ) -> usize
-    requires netlist_read { NetlistRead netlist.now × ((n ≡ (head_at netlist.now).n) × (operations ≡ (head_at netlist.now).operations)) }
-    requires longest_held { LongestHeld (netlist_in netlist.now) longest.now × (length places.old ≡ max_symbols) }
-    ensures { (result ≡ registers (netlist_in netlist.now)) × PlacesHeld (netlist_in netlist.now) places.new }
+    requires { LongestHeld (netlist_in netlist.now.bytes.now) longest.now × (length places.old ≡ max_symbols) }
+    ensures { (result ≡ registers (netlist_in netlist.now.bytes.now)) × PlacesHeld (netlist_in netlist.now.bytes.now) places.new }
 {
-    let symbols = n + operations;
+    let operations = netlist.operations();
+    let symbols = netlist.n() + operations;
     let mut at = operations;
     for symbol in 0..symbols {
         places[symbol] = at;
@@ -172,37 +103,38 @@ pub fn fill_waiting(
     entries
 }
 
-// The total of a netlist's registers, for any bytes.
+// The total of the registers of a netlist that read accepts.
+fn total_registers(bytes: &[u8]) -> Result<usize, Refused>
+    ensures ok { IfOk result (λ total. registers_answer bytes.now ≡ record { refusal = 0; place = 0; registers = total }) }
+    ensures err { IfErr result (λ r. read_netlist bytes.now ≡ refused (number r.refusal) r.place) }
+{
+    let mut forms: [i64; FORMS_LENGTH] = filled(0);
+    let mut depths: [u16; MAX_SYMBOLS] = filled(0);
+    let netlist = netlist_read::open_with(bytes, &mut forms, &mut depths)?;
+    let mut longest: [usize; MAX_SYMBOLS] = filled(0);
+    let depths = NetlistDepths {
+        netlist,
+        depths: &depths,
+    };
+    fill_longest(&depths, &mut longest);
+    let mut places: [usize; MAX_SYMBOLS] = filled(0);
+    Ok(fill_places(&netlist, &longest, &mut places))
+}
+
+// The total of a netlist's registers, for any bytes. Document 01's call answers by this struct, so a refusal is a number in it.
 pub fn registers(netlist: &[u8]) -> RegistersAnswer
     ensures { result ≡ registers_answer netlist.now }
 {
-    let mut forms = board_tables::blank_forms();
-    let mut depths = board_tables::blank_depths();
-    let read = netlist_read::netlist(netlist, &mut forms, &mut depths);
-    if read.refusal != 0 {
-        return RegistersAnswer {
-            refusal: read.refusal,
-            place: read.place,
+    match total_registers(netlist) {
+        Ok(registers) => RegistersAnswer {
+            refusal: 0,
+            place: 0,
+            registers,
+        },
+        Err(refused) => RegistersAnswer {
+            refusal: refused.refusal.number(),
+            place: refused.place,
             registers: 0,
-        };
-    }
-    let n = read.n as usize;
-    let operations = read.operations as usize;
-    let mut longest = blank_table();
-    fill_longest(
-        netlist,
-        due_length(netlist),
-        n,
-        read.m as usize,
-        operations,
-        read.depth as usize,
-        &depths,
-        &mut longest,
-    );
-    let mut places = blank_table();
-    RegistersAnswer {
-        refusal: 0,
-        place: 0,
-        registers: fill_places(netlist, n, operations, &longest, &mut places),
+        },
     }
 }

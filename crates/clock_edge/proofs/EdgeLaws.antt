@@ -8,7 +8,8 @@ use native.Mathlib.Omega.{arith}
 use lib.IntN.{ℤ}
 use lib.ListN.{length, get_or, set, take}
 use lib.Seq.{sets, take-suc-set, take_all}
-use Rattle.limits.specs.Limits.{max_shift}
+use Rattle.limits.specs.Limits.{max_rows, max_shift, max_operations, max_symbols}
+use Rattle.layout_rules.specs.declared.Head.{Head}
 use Rattle.layout_rules.specs.declared.Operation.{Operation}
 use Rattle.layout_rules.specs.declared.Output.{Output}
 use Rattle.layout_rules.specs.Records.{Netlist}
@@ -19,13 +20,15 @@ use Rattle.board_rules.specs.Table.{Small}
 use Rattle.board_rules.specs.Netlist.{OperationLimits, OutputOperand}
 use Rattle.netlist_rules.specs.Exact.{read_limits}
 use Rattle.netlist_read.specs.Tables.{NetlistRead}
-use Rattle.netlist_read.proofs.NetlistLaws.{operation-there, output-there}
+use Rattle.netlist_read.proofs.NetlistLaws.{head-limits, operation-there, output-there}
+use Rattle.clock_rules.specs.declared.Operands.{Operands}
 use Rattle.clock_rules.specs.Delays.{symbols, operand_delay, output_delay, longest_delay}
 use Rattle.clock_rules.specs.Clocked.{delayed, present_output, present_outputs, clocked_value, operations_after, edge}
 use Rattle.clock_rules.specs.InPlace.{source, source_by_sign, shifted_by, delays_in}
-use Rattle.clock_rules.specs.Tables.{LongestHeld, OperandsHeld, OutputsHeld, StoreReady}
+use Rattle.clock_rules.specs.Tables.{LongestHeld, no_operands, OperandSources, OutputsHeld, StoreReady}
 use Rattle.clock_rules.proofs.InPlace.{delays_in_all, edge_by_table}
 use Rattle.clock_rules.proofs.InBytes.{symbols-are, first_covered, second_covered, output_covered, source-read, source-within}
+use Rattle.clock_edge.specs.declared.schedule.Schedule.{Schedule}
 
 -- ---- values written one after another
 
@@ -84,34 +87,43 @@ module _ (bytes : List ℕ) (xs store : List ℤ) (S : StoreReady (netlist_in by
     }
 
   -- of an operation
-  module _ (firsts seconds : List ℕ) (O : OperandsHeld bytes firsts seconds) (k : ℕ) (h : k < q) where
+  module _ (operands : List Operands) (O : OperandSources bytes operands) (k : ℕ) (h : k < q) where
     abbrev operation : Operation
     operation = operation_at bytes k
 
+    abbrev sources : Operands
+    sources = get_or operands k no_operands
+
     abbrev first : ℤ
-    first = entry_at (xs ++ store) (get_or firsts k 0)
+    first = entry_at (xs ++ store) sources.first
 
     abbrev second : ℤ
-    second = entry_at (xs ++ store) (get_or seconds k 0)
+    second = entry_at (xs ++ store) sources.second
+
+    first_is : sources.first ≡ source net operation.a (operand_delay net (n + k) operation.a)
+    first_is = ap (λ (x : Operands). x.first) (O.held k h)
+
+    second_is : sources.second ≡ source net operation.b (operand_delay net (n + k) operation.b)
+    second_is = ap (λ (x : Operands). x.second) (O.held k h)
 
     abbrev delay : ℕ → ℕ
     delay symbol = operand_delay net (n + k) symbol
 
     pub value-is : joined operation.sign (shifted first operation.sa) (shifted second operation.sb) ≡ clocked_value net xs store (n + k) operation
     value-is = ap₂ (λ (x y : ℤ). joined operation.sign (shifted x operation.sa) (shifted y operation.sb))
-        (delayed-is operation.a (delay operation.a) (get_or firsts k 0) (O.first k h))
-        (delayed-is operation.b (delay operation.b) (get_or seconds k 0) (O.second k h))
+        (delayed-is operation.a (delay operation.a) sources.first first_is)
+        (delayed-is operation.b (delay operation.b) sources.second second_is)
 
     module _ (N : NetlistRead bytes) where
       limits : OperationLimits (read_limits (head_at bytes).width) (n + k) operation
       limits = (operation-there bytes N k h).1
 
-      pub first_readable : Readable xs store (get_or firsts k 0) operation.sa
-      first_readable = readable operation.a (delay operation.a) (get_or firsts k 0) (O.first k h) operation.sa
+      pub first_readable : Readable xs store sources.first operation.sa
+      first_readable = readable operation.a (delay operation.a) sources.first first_is operation.sa
           (omega (arith, limits.first_earlier)) (first_covered bytes k h) (omega (arith, limits.first-shift))
 
-      pub second_readable : Readable xs store (get_or seconds k 0) operation.sb
-      second_readable = readable operation.b (delay operation.b) (get_or seconds k 0) (O.second k h) operation.sb
+      pub second_readable : Readable xs store sources.second operation.sb
+      second_readable = readable operation.b (delay operation.b) sources.second second_is operation.sb
           (omega (arith, limits.second_earlier)) (second_covered bytes k h) (omega (arith, limits.second-shift))
 
   -- of an output; where it is zero, its symbol's present value is read
@@ -168,3 +180,86 @@ module _ (bytes : List ℕ) (xs store : List ℤ) (S : StoreReady (netlist_in by
     edge-is delays values d v =
         ap₂ (λ (l vs : List ℤ). sets l 0 vs) (d ∙ ap₂ (λ (k s : ℕ). shifted_by longest xs store k 0 s) (sym count) (sym all)) v
         ∙ edge_by_table net longest L xs store S.size S.room
+
+-- ---- by a schedule
+
+module _ (schedule : Schedule) where
+  abbrev head : Head
+  head = schedule.netlist.head
+
+  abbrev bytes-of : List ℕ
+  bytes-of = schedule.netlist.bytes.now
+
+  abbrev net-of : Netlist
+  net-of = netlist_in bytes-of
+
+  columns-are : head.n ≡ (head_at bytes-of).n
+  columns-are = ap (λ (h : Head). h.n) schedule.netlist.head_read
+
+  pub operations-are : head.operations ≡ (head_at bytes-of).operations
+  operations-are = ap (λ (h : Head). h.operations) schedule.netlist.head_read
+
+  pub rows-are : head.m ≡ (head_at bytes-of).m
+  rows-are = ap (λ (h : Head). h.m) schedule.netlist.head_read
+
+  pub operations-few : head.operations ≤ max_operations
+  operations-few = omega (arith, operations-are, (head-limits bytes-of schedule.netlist.read).few)
+
+  pub rows-few : head.m ≤ max_rows
+  rows-few = omega (arith, rows-are, (head-limits bytes-of schedule.netlist.read).limits.rows-most)
+
+  pub symbols_few : head.n + head.operations ≤ max_symbols
+  symbols_few = omega (arith, columns-are, operations-are, (head-limits bytes-of schedule.netlist.read).limits.columns-most, (head-limits bytes-of schedule.netlist.read).few)
+
+  module _ (xs store : List ℤ) (R : StoreReady (netlist_in schedule.netlist.bytes.now) xs store) where
+    -- operation k, read, and the values of its operands
+    module _ (k : ℕ) (inside : k < schedule.netlist.head.operations) where
+      there : k < (head_at bytes-of).operations
+      there = omega (arith, operations-are)
+
+      abbrev read_at : Operands
+      read_at = get_or schedule.operands.now k no_operands
+
+      pub first_within : read_at.first < length xs + length store
+      first_within = (first_readable bytes-of xs store R schedule.operands.now schedule.operands_held k there schedule.netlist.read).within
+
+      pub second_within : read_at.second < length xs + length store
+      second_within = (second_readable bytes-of xs store R schedule.operands.now schedule.operands_held k there schedule.netlist.read).within
+
+      module _ (o : Operation) (e : o ≡ operation_at bytes-of k) (x y : ℤ) (d : x ≡ entry_at (xs ++ store) read_at.first) (f : y ≡ entry_at (xs ++ store) read_at.second) where
+        pub operands_small : Small x o.sa × Small y o.sb
+        operands_small = rw (d, f, e) (
+          (first_readable bytes-of xs store R schedule.operands.now schedule.operands_held k there schedule.netlist.read).small,
+          (second_readable bytes-of xs store R schedule.operands.now schedule.operands_held k there schedule.netlist.read).small,
+        )
+
+        pub worked-out : (r : ℤ) → r ≡ joined o.sign (shifted x o.sa) (shifted y o.sb) → r ≡ clocked_value net-of xs store ((head_at bytes-of).n + k) (operation_at bytes-of k)
+        worked-out r g = g ∙ rw (d, f, e) (value-is bytes-of xs store R schedule.operands.now schedule.operands_held k there)
+
+    -- the output of row i, read, and its symbol's value
+    module _ (i : ℕ) (inside : i < schedule.netlist.head.m) where
+      row : i < (head_at bytes-of).m
+      row = omega (arith, rows-are)
+
+      abbrev source_at_row : ℕ
+      source_at_row = get_or schedule.outputs.now i 0
+
+      pub output_within : source_at_row < length xs + length store
+      output_within = (output_readable bytes-of xs store R schedule.outputs.now schedule.outputs_held i row schedule.netlist.read).within
+
+      module _ (o : Output) (e : o ≡ output_at bytes-of head.operations i) (x : ℤ) (d : x ≡ entry_at (xs ++ store) source_at_row) where
+        same : o ≡ output_at bytes-of (head_at bytes-of).operations i
+        same = e ∙ ap (λ (q : ℕ). output_at bytes-of q i) operations-are
+
+        pub output_small : Small x o.shift
+        output_small = rw (d, same) (output_readable bytes-of xs store R schedule.outputs.now schedule.outputs_held i row schedule.netlist.read).small
+
+        pub made : (r : ℤ) → r ≡ with_sign o.sign (shifted x o.shift) → r ≡ present_output net-of xs store (output_at bytes-of (head_at bytes-of).operations i)
+        made r g = g ∙ rw (d, same) (output-is bytes-of xs store R schedule.outputs.now schedule.outputs_held i row)
+
+    -- the store
+    pub symbols-are_held : length xs + head.operations ≡ head.n + head.operations
+    symbols-are_held = omega (arith, R.size, columns-are)
+
+    pub delays_room : head.operations + delays_in schedule.longest.now 0 (length xs + head.operations) ≤ length store
+    delays_room = delays-room bytes-of xs store R schedule.longest.now schedule.longest_held head.operations operations-are

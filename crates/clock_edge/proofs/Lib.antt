@@ -1,1 +1,2 @@
 pub mod EdgeLaws
+pub mod ShiftLaws

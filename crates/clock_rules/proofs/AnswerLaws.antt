@@ -163,7 +163,7 @@ module _ (b : List ℕ) (samples store outputs : List ℤ) where
     pub store_left : store_after ≡ clock_store b samples store (length outputs)
     pub outputs_left : outputs_after ≡ clock_outputs b samples store outputs
 
-  refused_keeps : (r place : ℕ) → read_netlist b ≡ refused r place → Clocked (ran r place) store outputs
+  pub refused_keeps : (r place : ℕ) → read_netlist b ≡ refused r place → Clocked (ran r place) store outputs
   unfolding clock_answer clock_store clock_outputs
   refused_keeps r place e = record { answer = rw (e, clock_answer) refl; store_left = rw (e, clock_store) refl; outputs_left = rw (e, clock_outputs) refl }
 
@@ -261,13 +261,9 @@ pub registers-accepted : (b : List ℕ) (net : Netlist) → read_netlist b ≡ a
 unfolding registers_answer
 registers-accepted b net e = rw (e, registers_answer) refl
 
-pub registers-refused : (b : List ℕ) (a : ReadAnswer) → a ≡ read_answer b → (a.refusal ≡ 0 → ⊥) → registers_answer b ≡ registers_refused a.refusal a.place
-unfolding registers_answer read_answer
-registers-refused b a e h = go (read_netlist b) refl
-  where
-    go : (x : Reading Netlist) → read_netlist b ≡ x → registers_answer b ≡ registers_refused a.refusal a.place
-    go (refused r p) d = let f : a ≡ read_answer_of (refused r p) = e ∙ ap read_answer_of d in rw f (rw (d, registers_answer) refl)
-    go (accepted net) d = absurd (h (ap (λ (y : ReadAnswer). y.refusal) (e ∙ ap read_answer_of d)))
+pub registers-refused : (b : List ℕ) (r place : ℕ) → read_netlist b ≡ refused r place → registers_answer b ≡ registers_refused r place
+unfolding registers_answer
+registers-refused b r place e = rw (e, registers_answer) refl
 
 -- the same refusals as read's, at the same places
 pub registers_refuses : (b : List ℕ) → ((registers_answer b).refusal ≡ (read_answer b).refusal) × ((registers_answer b).place ≡ (read_answer b).place)

@@ -15,7 +15,8 @@ use Rattle.layout_rules.specs.declared.Operation.{Operation}
 use Rattle.layout_rules.specs.Records.{Netlist}
 use Rattle.board_rules.specs.Machine.{entry_at}
 use Rattle.layout_rules.proofs.FirstRecords.{last_or_earlier, length-first, get_d_first}
-use Rattle.clock_rules.specs.Delays.{symbols, Delay, operand_delays, output_delays, longest_of, longest_delay, delays_below, registers, delay_place}
+use Rattle.clock_rules.specs.declared.Delay.{Delay}
+use Rattle.clock_rules.specs.Delays.{symbols, operand_delays, output_delays, longest_of, longest_delay, delays_below, registers, delay_place}
 use Rattle.clock_rules.specs.Clocked.{delayed, operations_after, symbol_after, delays_after, edge}
 
 -- ---- longest delays

@@ -17,7 +17,8 @@ use Rattle.layout_rules.specs.Places.{head_at, operation_at, output_at, first_re
 use Rattle.layout_rules.proofs.FirstRecords.{last_or_earlier, length-first, first_split}
 use Rattle.board_rules.specs.Machine.{entry_at, Earlier}
 use Rattle.board_rules.specs.Table.{HoldsDepths}
-use Rattle.clock_rules.specs.Delays.{symbols, symbol_depth, operand_delay, output_delay, Delay, delay_by, operand_delays, unless_zero, output_delays, longest_delay, registers, delay_place}
+use Rattle.clock_rules.specs.declared.Delay.{Delay}
+use Rattle.clock_rules.specs.Delays.{symbols, symbol_depth, operand_delay, output_delay, delay_by, operand_delays, unless_zero, output_delays, longest_delay, registers, delay_place}
 use Rattle.clock_rules.specs.Clocked.{delayed, clocked_value, operations_after}
 use Rattle.clock_rules.specs.InPlace.{source}
 use Rattle.clock_rules.specs.Tables.{most_registers, SymbolDepths, entered}

@@ -14,7 +14,8 @@ use Rattle.layout_rules.specs.declared.Operation.{Operation}
 use Rattle.layout_rules.specs.declared.Output.{Output}
 use Rattle.layout_rules.specs.Records.{Netlist}
 use Rattle.board_rules.proofs.DepthLaws.{depth_at_most}
-use Rattle.clock_rules.specs.Delays.{symbols, netlist_depth, output_delay, Delay, delay_by, unless_zero, operand_delays, output_delays, longest_of, longest_delay, delays_below, registers}
+use Rattle.clock_rules.specs.declared.Delay.{Delay}
+use Rattle.clock_rules.specs.Delays.{symbols, netlist_depth, output_delay, delay_by, unless_zero, operand_delays, output_delays, longest_of, longest_delay, delays_below, registers}
 use Rattle.clock_rules.specs.Tables.{entered}
 use Rattle.clock_rules.proofs.Depths.{depth-most}
 use Rattle.clock_rules.proofs.DelayLaws.{Covered}

@@ -15,7 +15,8 @@ use Rattle.layout_rules.specs.Records.{Netlist}
 use Rattle.board_rules.specs.Machine.{entry_at, shifted, with_sign, machine, Earlier, output_value, times, entry_form, output_form}
 use Rattle.board_rules.proofs.MachineLaws.{machine_keeps, Follows, machine_follows}
 use Rattle.board_rules.proofs.FormLaws.{entry_times, output-times}
-use Rattle.clock_rules.specs.Delays.{symbols, symbol_depth, netlist_depth, operand_delay, output_delay, Delay, delay_by, unless_zero, operand_delays, output_delays, longest_delay, registers, delay_place}
+use Rattle.clock_rules.specs.declared.Delay.{Delay}
+use Rattle.clock_rules.specs.Delays.{symbols, symbol_depth, netlist_depth, operand_delay, output_delay, delay_by, unless_zero, operand_delays, output_delays, longest_delay, registers, delay_place}
 use Rattle.clock_rules.specs.Clocked.{delayed, present_output, operations_after, edge, cleared}
 use Rattle.clock_rules.specs.Pipelined.{Vectors}
 use Rattle.clock_rules.proofs.Depths.{DepthsFollow, depth-most, input-depth, symbol-depths_follow, operation-depth-least}

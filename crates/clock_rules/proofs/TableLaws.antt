@@ -9,12 +9,13 @@ use lib.ListN.{length, get_or, set}
 use lib.Seq.{get_or-set_same, get_or-set_other}
 use Rattle.layout_rules.proofs.FirstRecords.{last_or_earlier}
 
-abbrev pub Below : List ℕ → (ℕ → ℕ) → ℕ → Type 0
-Below table right k = (j : ℕ) → j < k → get_or table j 0 ≡ right j
+module _ {A : Type 0} (none : A) where
+  abbrev pub Below : List A → (ℕ → A) → ℕ → Type 0
+  Below table right k = (j : ℕ) → j < k → get_or table j none ≡ right j
 
-pub below_next : (table : List ℕ) (right : ℕ → ℕ) (k entry : ℕ) → k < length table → entry ≡ right k → Below table right k → Below (set table k entry) right (suc k)
-below_next table right k entry room e before j h =
-    ⊎_elim
-    (λ less. get_or-set_other table k j entry 0 (λ same. omega arith) ∙ before j less)
-    (λ same. rw same (get_or-set_same table k entry 0 room ∙ e))
-    (last_or_earlier j k h)
+  pub below_next : (table : List A) (right : ℕ → A) (k : ℕ) (entry : A) → k < length table → entry ≡ right k → Below table right k → Below (set table k entry) right (suc k)
+  below_next table right k entry room e before j h =
+      ⊎_elim
+      (λ less. get_or-set_other table k j entry none (λ same. omega arith) ∙ before j less)
+      (λ same. rw same (get_or-set_same table k entry none room ∙ e))
+      (last_or_earlier j k h)

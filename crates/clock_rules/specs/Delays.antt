@@ -5,6 +5,7 @@ use Rattle.layout_rules.specs.declared.Operation.{Operation}
 use Rattle.layout_rules.specs.declared.Output.{Output}
 use Rattle.layout_rules.specs.Records.{Netlist}
 use Rattle.board_rules.specs.Machine.{depths, depth}
+use Rattle.clock_rules.specs.declared.Delay.{Delay}
 
 -- the number of symbols: inputs, then operations
 abbrev pub symbols : Netlist → ℕ
@@ -29,10 +30,6 @@ abbrev pub output_delay : Netlist → ℕ → ℕ
 output_delay net symbol = netlist_depth net - symbol_depth net symbol
 
 -- a symbol's delay by so many clocks
-pub record Delay : Type 0 where
-  pub symbol : ℕ
-  pub clocks : ℕ
-
 abbrev pub delay_by : ℕ → ℕ → Delay
 delay_by symbol clocks = record { symbol = symbol; clocks = clocks }
 
@@ -47,6 +44,22 @@ abbrev pub unless_zero : ℕ → Delay → List Delay
 unless_zero zero d = d ∷ []
 unless_zero (suc zero) d = d ∷ []
 unless_zero (suc (suc _)) d = []
+
+-- by how many clocks an output is delayed: a zero one by none
+abbrev pub clocks_by_sign : Netlist → ℕ → ℕ → ℕ
+clocks_by_sign net zero symbol = output_delay net symbol
+clocks_by_sign net (suc zero) symbol = output_delay net symbol
+clocks_by_sign net (suc (suc _)) symbol = 0
+
+-- the delays of both operands of the operation of a symbol, and of an output
+abbrev pub first_delay : Netlist → ℕ → Operation → Delay
+first_delay net symbol o = delay_by o.a (operand_delay net symbol o.a)
+
+abbrev pub second_delay : Netlist → ℕ → Operation → Delay
+second_delay net symbol o = delay_by o.b (operand_delay net symbol o.b)
+
+abbrev pub delay_of_output : Netlist → Output → Delay
+delay_of_output net o = delay_by o.symbol (clocks_by_sign net o.sign o.symbol)
 
 unfoldable pub output_delays : Netlist → List Output → List Delay
 output_delays net [] = []

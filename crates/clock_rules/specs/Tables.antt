@@ -3,10 +3,13 @@
 -- Assumes nothing.
 use Rattle.std.specs.Prelude.{ℕ, zero, suc, ◌+◌, ◌*◌, ◌≤◌, ◌<◌, max, ◌≡◌, List, [], ◌∷◌, ℤ, length, get_or, set}
 use Rattle.limits.specs.Limits.{max_rows, max_shift, max_operations, max_symbols}
+use Rattle.layout_rules.specs.declared.Operation.{Operation}
 use Rattle.layout_rules.specs.Records.{Netlist}
 use Rattle.layout_rules.specs.Places.{head_at, operation_at, output_at, netlist_in}
 use Rattle.board_rules.specs.Table.{Small}
-use Rattle.clock_rules.specs.Delays.{symbols, symbol_depth, Delay, longest_delay, registers, delay_place}
+use Rattle.clock_rules.specs.declared.Delay.{Delay}
+use Rattle.clock_rules.specs.declared.Operands.{Operands}
+use Rattle.clock_rules.specs.Delays.{symbols, symbol_depth, longest_delay, registers, delay_place}
 use Rattle.clock_rules.specs.Clocked.{delayed}
 use Rattle.clock_rules.specs.InPlace.{first_source, second_source, output_source}
 
@@ -51,13 +54,25 @@ pub record WaitingHeld (longest : List ℕ) (symbols : ℕ) (waiting : List ℕ)
   pub between : (j : ℕ) → j < entries → NoDelays longest (behind_entry waiting j) (get_or waiting j 0)
   pub behind : NoDelays longest (behind_entry waiting entries) symbols
 
+-- the symbols with delays, ascending; a symbol between two of them has no delays, nor has one before the first or behind the last
+pub record WaitingSymbols (longest : List ℕ) (symbols : ℕ) (waiting : List ℕ) : Type 0 where
+  pub few : length waiting ≤ symbols
+  pub ascending : (j : ℕ) → j < length waiting → behind_entry waiting j ≤ get_or waiting j 0
+  pub below : (j : ℕ) → j < length waiting → get_or waiting j 0 < symbols
+  pub between : (j : ℕ) → j < length waiting → NoDelays longest (behind_entry waiting j) (get_or waiting j 0)
+  pub behind : NoDelays longest (behind_entry waiting (length waiting)) symbols
+
 -- ---- by operation and by output
 
-pub record OperandsHeld (bytes firsts seconds : List ℕ) : Type 0 where
-  pub first-room : length firsts ≡ max_operations
-  pub second-room : length seconds ≡ max_operations
-  pub first : (k : ℕ) → k < (head_at bytes).operations → get_or firsts k 0 ≡ first_source (netlist_in bytes) ((head_at bytes).n + k) (operation_at bytes k)
-  pub second : (k : ℕ) → k < (head_at bytes).operations → get_or seconds k 0 ≡ second_source (netlist_in bytes) ((head_at bytes).n + k) (operation_at bytes k)
+abbrev pub no_operands : Operands
+no_operands = record { first = 0; second = 0 }
+
+abbrev pub operands_of : Netlist → ℕ → Operation → Operands
+operands_of net symbol o = record { first = first_source net symbol o; second = second_source net symbol o }
+
+pub record OperandSources (bytes : List ℕ) (operands : List Operands) : Type 0 where
+  pub room : length operands ≡ max_operations
+  pub held : (k : ℕ) → k < (head_at bytes).operations → get_or operands k no_operands ≡ operands_of (netlist_in bytes) ((head_at bytes).n + k) (operation_at bytes k)
 
 pub record OutputsHeld (bytes sources : List ℕ) : Type 0 where
   pub room : length sources ≡ max_rows

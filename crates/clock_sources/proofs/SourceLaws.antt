@@ -1,146 +1,160 @@
--- Where the operands and outputs of the netlist in bytes are read: the tables of it, filled one by one, and what the tables of depths and of
--- the places of delays say of each operand and output.
+-- Where the operands and outputs of a netlist with its depths are read: what the table of the places of delays says of a delay, and the
+-- tables, filled one by one.
 -- Assumes nothing.
-use Prim.Native.Nat.{ℕ, zero, suc, ◌+◌, ◌-◌, ◌≤◌, ◌<◌}
-use mathlib.Core.Path.{◌≡◌, refl, sym, ap, ◌∙◌, subst}
+use Prim.Native.Nat.{ℕ, zero, suc, ◌+◌, ◌≤◌, ◌<◌}
+use mathlib.Core.Path.{◌≡◌, refl, sym, ap, ap₂, ◌∙◌, subst}
 use mathlib.Core.List.{List}
 use native.Mathlib.Omega.{arith}
 use lib.ListN.{length, get_or, set, length-set}
-use Rattle.limits.specs.Limits.{max_rows, max_operations, max_symbols}
+use Rattle.limits.specs.Limits.{max_rows, max_columns, max_operations, max_symbols}
+use Rattle.layout_rules.specs.declared.Head.{Head}
 use Rattle.layout_rules.specs.declared.Output.{Output}
 use Rattle.layout_rules.specs.Records.{Netlist}
 use Rattle.layout_rules.specs.Places.{head_at, operation_at, output_at, netlist_in}
 use Rattle.netlist_read.specs.Tables.{NetlistRead}
-use Rattle.netlist_read.proofs.NetlistLaws.{head-limits, output-there}
-use Rattle.clock_rules.specs.Delays.{symbols, netlist_depth, operand_delay, output_delay, longest_delay}
-use Rattle.clock_rules.specs.InPlace.{source_at, source, first_source, second_source, source_by_sign, output_source}
-use Rattle.clock_rules.specs.Tables.{most_registers, SymbolDepths, PlacesHeld}
+use Rattle.netlist_read.proofs.NetlistLaws.{head-limits, operation-there, output-there}
+use Rattle.clock_rules.specs.declared.Delay.{Delay}
+use Rattle.clock_rules.specs.declared.Operands.{Operands}
+use Rattle.clock_rules.specs.Delays.{symbols, output_delay, longest_delay, clocks_by_sign, first_delay, second_delay, delay_of_output}
+use Rattle.clock_rules.specs.InPlace.{source_at, source, source_by_sign, output_source}
+use Rattle.clock_rules.specs.Tables.{most_registers, PlacesHeld, no_operands, operands_of, OperandSources, OutputsHeld}
 use Rattle.clock_rules.proofs.TableLaws.{Below, below_next}
-use Rattle.clock_delays.proofs.Entered.{OperandReady, OperandsReady, OutputReady, symbols-few, operands_ready, output_ready}
 use Rattle.clock_rules.proofs.InBytes.{symbols-are, first_covered, second_covered, output_covered, delay_bound}
+use Rattle.clock_delays.specs.declared.depths.NetlistDepths.{NetlistDepths}
+use Rattle.clock_delays.proofs.Entered.{n-is, operations-are, symbols-few}
 
 -- ---- one after another
 
 -- where the operands of the operations before k are read
-pub record OperandsBefore (bytes : List ℕ) (k : ℕ) (firsts seconds : List ℕ) : Type 0 where
-  pub first-room : length firsts ≡ max_operations
-  pub second-room : length seconds ≡ max_operations
-  pub first : Below firsts (λ j. first_source (netlist_in bytes) ((head_at bytes).n + j) (operation_at bytes j)) k
-  pub second : Below seconds (λ j. second_source (netlist_in bytes) ((head_at bytes).n + j) (operation_at bytes j)) k
+pub record OperandsBefore (bytes : List ℕ) (k : ℕ) (operands : List Operands) : Type 0 where
+  pub room : length operands ≡ max_operations
+  pub held : Below no_operands operands (λ j. operands_of (netlist_in bytes) ((head_at bytes).n + j) (operation_at bytes j)) k
 
 -- and the outputs before i
 pub record OutputsBefore (bytes : List ℕ) (i : ℕ) (sources : List ℕ) : Type 0 where
   pub room : length sources ≡ max_rows
-  pub output : Below sources (λ j. output_source (netlist_in bytes) (output_at bytes (head_at bytes).operations j)) i
+  pub output : Below 0 sources (λ j. output_source (netlist_in bytes) (output_at bytes (head_at bytes).operations j)) i
 
--- ---- by the tables of depths and of the places of delays
+-- ---- a delay
 
--- of an operand of operation k: what is asked to work out where it is read, and that this is right
-pub record OperandKnown (bytes depths places : List ℕ) (n k operand : ℕ) : Type 0 where
-  pub below : operand < max_symbols
-  pub shallower : get_or depths operand 0 < get_or depths (n + k) 0
-  pub within : (clocks : ℕ) → clocks ≡ get_or depths (n + k) 0 - 1 - get_or depths operand 0 → get_or places operand 0 + clocks ≤ most_registers
-  pub found : (clocks : ℕ) → clocks ≡ get_or depths (n + k) 0 - 1 - get_or depths operand 0
-      → source_at n (get_or places operand 0) operand clocks ≡ source (netlist_in bytes) operand (operand_delay (netlist_in bytes) ((head_at bytes).n + k) operand)
+-- where a delayed value is read, by a table of the places of delays: what is asked to work it out, and that this is right
+pub record DelayKnown (net : Netlist) (places : List ℕ) (n : ℕ) (d : Delay) : Type 0 where
+  pub below : d.symbol < max_symbols
+  pub narrow : n ≤ max_columns
+  pub within : get_or places d.symbol 0 + d.clocks ≤ most_registers
+  pub found : source_at n (get_or places d.symbol 0) d.symbol d.clocks ≡ source net d.symbol d.clocks
 
--- the same of an output, the netlist being so deep; a zero one is read at its symbol
-pub record OutputKnown (bytes depths places : List ℕ) (n depth : ℕ) (o : Output) : Type 0 where
-  pub below : o.symbol < max_symbols
-  pub shallower : get_or depths o.symbol 0 ≤ depth
-  pub within : (o.sign ≡ 2 → ⊥) → (clocks : ℕ) → clocks ≡ depth - get_or depths o.symbol 0 → get_or places o.symbol 0 + clocks ≤ most_registers
-  pub found : (o.sign ≡ 2 → ⊥) → (clocks : ℕ) → clocks ≡ depth - get_or depths o.symbol 0
-      → source_at n (get_or places o.symbol 0) o.symbol clocks ≡ output_source (netlist_in bytes) o
-  pub zero_found : o.sign ≡ 2 → o.symbol ≡ output_source (netlist_in bytes) o
+by_sign : (net : Netlist) (sign symbol : ℕ) → source net symbol (clocks_by_sign net sign symbol) ≡ source_by_sign net sign symbol
+by_sign net zero symbol = refl
+by_sign net (suc zero) symbol = refl
+by_sign net (suc (suc sign)) symbol = refl
 
-by_sign : (net : Netlist) (sign symbol : ℕ) → sign ≤ 1 → source_by_sign net sign symbol ≡ source net symbol (output_delay net symbol)
-by_sign net zero symbol h = refl
-by_sign net (suc zero) symbol h = refl
-by_sign net (suc (suc sign)) symbol h = absurd (omega arith)
+sign_covered : (net : Netlist) (sign symbol : ℕ) → (sign ≤ 1 → output_delay net symbol ≤ longest_delay net symbol) → clocks_by_sign net sign symbol ≤ longest_delay net symbol
+sign_covered net zero symbol h = h (omega arith)
+sign_covered net (suc zero) symbol h = h (omega arith)
+sign_covered net (suc (suc sign)) symbol h = omega arith
 
-module _ (bytes : List ℕ) where
+module _ (b : List ℕ) (N : NetlistRead b) (h : Head) (e : h ≡ head_at b) (places : List ℕ) (P : PlacesHeld (netlist_in b) places) where
   abbrev net : Netlist
-  net = netlist_in bytes
+  net = netlist_in b
 
-  abbrev n : ℕ
-  n = (head_at bytes).n
-
-  abbrev q : ℕ
-  q = (head_at bytes).operations
-
-  abbrev o : ℕ → Output
-  o i = output_at bytes q i
-
-  pub operands_next : (k first second : ℕ) (firsts seconds : List ℕ) → k < max_operations → first ≡ first_source net (n + k) (operation_at bytes k)
-      → second ≡ second_source net (n + k) (operation_at bytes k) → OperandsBefore bytes k firsts seconds
-      → OperandsBefore bytes (suc k) (set firsts k first) (set seconds k second)
-  operands_next k first second firsts seconds h d e before = record {
-    first-room = length-set firsts k first ∙ before.first-room;
-    second-room = length-set seconds k second ∙ before.second-room;
-    first = below_next firsts (λ j. first_source net (n + j) (operation_at bytes j)) k first (omega arith) d before.first;
-    second = below_next seconds (λ j. second_source net (n + j) (operation_at bytes j)) k second (omega arith) e before.second;
+  known : (d : Delay) → d.symbol < symbols net → d.clocks ≤ longest_delay net d.symbol → DelayKnown net places h.n d
+  known d there c = record {
+    below = omega (arith, there, symbols-are b, symbols-few b N);
+    narrow = omega (arith, n-is b N h e, (head-limits b N).limits.columns-most);
+    within = omega (arith, P.held d.symbol there, delay_bound b (head-limits b N).few (head-limits b N).limits.columns-most d.symbol d.clocks there c);
+    found = ap₂ (λ (n place : ℕ). source_at n place d.symbol d.clocks) (n-is b N h e) (P.held d.symbol there);
   }
 
-  pub outputs_next : (i place : ℕ) (sources : List ℕ) → i < max_rows → place ≡ output_source net (o i) → OutputsBefore bytes i sources
-      → OutputsBefore bytes (suc i) (set sources i place)
-  outputs_next i place sources h e before = record {
-    room = length-set sources i place ∙ before.room;
-    output = below_next sources (λ j. output_source net (o j)) i place (omega arith) e before.output;
-  }
+  -- both operands of operation k
+  module _ (k : ℕ) (l : k < h.operations) where
+    inside : k < (head_at b).operations
+    inside = omega (arith, operations-are b N h e)
 
-  module _ (N : NetlistRead bytes) (depths places : List ℕ) (D : SymbolDepths net depths) (P : PlacesHeld net places) where
-    -- a symbol's value of so many clocks before
-    module _ (symbol : ℕ) (there : symbol < symbols net) where
-      value-within : (clocks : ℕ) → clocks ≤ longest_delay net symbol → get_or places symbol 0 + clocks ≤ most_registers
-      value-within clocks c =
-          omega (arith, P.held symbol there, delay_bound bytes (head-limits bytes N).few (head-limits bytes N).limits.columns-most symbol clocks there c)
+    first_there : (operation_at b k).a < symbols net
+    first_there = omega (arith, (operation-there b N k inside).1.first_earlier, symbols-are b, inside)
 
-      value_found : (clocks : ℕ) → source_at n (get_or places symbol 0) symbol clocks ≡ source net symbol clocks
-      value_found clocks = ap (λ place. source_at n place symbol clocks) (P.held symbol there)
+    pub first_known : (d : Delay) → d ≡ first_delay net (h.n + k) (operation_at b k) → DelayKnown net places h.n d
+    first_known d r = subst (DelayKnown net places h.n) (sym (r ∙ ap (λ (n : ℕ). first_delay net (n + k) (operation_at b k)) (n-is b N h e)))
+        (known (first_delay net ((head_at b).n + k) (operation_at b k)) first_there (first_covered b k inside))
 
-    -- both operands of operation k
-    module _ (k : ℕ) (h : k < q) where
-      ready : OperandsReady net depths (n + k) (operation_at bytes k)
-      ready = operands_ready bytes N depths D n refl k h (operation_at bytes k) refl
+    second_there : (operation_at b k).b < symbols net
+    second_there = omega (arith, (operation-there b N k inside).1.second_earlier, symbols-are b, inside)
 
-      known : (operand : ℕ) → OperandReady net depths (n + k) operand → operand_delay net (n + k) operand ≤ longest_delay net operand
-          → OperandKnown bytes depths places n k operand
-      known operand r c = record {
-        below = omega (arith, r.below, symbols-few bytes N);
-        shallower = r.shallower;
-        within = λ clocks e. value-within operand there clocks (subst (λ x. x ≤ longest_delay net operand) (sym (e ∙ r.waits)) c);
-        found = λ clocks e. value_found operand there clocks ∙ ap (source net operand) (e ∙ r.waits);
-      }
-        where
-          there : operand < symbols net
-          there = omega (arith, r.below, symbols-are bytes)
+    pub second_known : (d : Delay) → d ≡ second_delay net (h.n + k) (operation_at b k) → DelayKnown net places h.n d
+    second_known d r = subst (DelayKnown net places h.n) (sym (r ∙ ap (λ (n : ℕ). second_delay net (n + k) (operation_at b k)) (n-is b N h e)))
+        (known (second_delay net ((head_at b).n + k) (operation_at b k)) second_there (second_covered b k inside))
 
-      pub first_known : OperandKnown bytes depths places n k (operation_at bytes k).a
-      first_known = known (operation_at bytes k).a ready.first (first_covered bytes k h)
+    -- are entered
+    pub operands_next : (first second : Delay) → first ≡ first_delay net (h.n + k) (operation_at b k) → second ≡ second_delay net (h.n + k) (operation_at b k)
+        → (x y : ℕ) → x ≡ source_at h.n (get_or places first.symbol 0) first.symbol first.clocks → y ≡ source_at h.n (get_or places second.symbol 0) second.symbol second.clocks
+        → (operands : List Operands) → OperandsBefore b k operands → OperandsBefore b (suc k) (set operands k (record { first = x; second = y }))
+    operands_next first second r s x y f g operands B =
+        let symbol = (head_at b).n + k in
+        let o = operation_at b k in
+        let n : h.n ≡ (head_at b).n = n-is b N h e in
+        let first-is : x ≡ (operands_of net symbol o).first =
+        f ∙ (first_known first r).found ∙ ap (λ (d : Delay). source net d.symbol d.clocks) (r ∙ ap (λ (m : ℕ). first_delay net (m + k) o) n) in
+        let second-is : y ≡ (operands_of net symbol o).second =
+        g ∙ (second_known second s).found ∙ ap (λ (d : Delay). source net d.symbol d.clocks) (s ∙ ap (λ (m : ℕ). second_delay net (m + k) o) n) in
+        record {
+          room = length-set operands k (record { first = x; second = y }) ∙ B.room;
+          held = below_next no_operands operands (λ j. operands_of net ((head_at b).n + j) (operation_at b j)) k (record { first = x; second = y })
+              (omega (arith, B.room, inside, (head-limits b N).few))
+              (ap₂ (λ (v w : ℕ). record { first = v; second = w }) first-is second-is) B.held;
+        }
 
-      pub second_known : OperandKnown bytes depths places n k (operation_at bytes k).b
-      second_known = known (operation_at bytes k).b ready.second (second_covered bytes k h)
+  pub operands-started : (operands : List Operands) → length operands ≡ max_operations → OperandsBefore b 0 operands
+  operands-started operands room = record { room = room; held = λ j l. absurd (omega arith) }
 
-    -- output i
-    module _ (i : ℕ) (h : i < (head_at bytes).m) where
-      abbrev symbol : ℕ
-      symbol = (o i).symbol
+  pub operands-all : (k : ℕ) → k ≡ h.operations → (operands : List Operands) → OperandsBefore b k operands → OperandSources b operands
+  operands-all k all operands B = record { room = B.room; held = λ j l. B.held j (omega (arith, operations-are b N h e)) }
 
-      output_here : symbol < symbols net
-      output_here = omega (arith, symbols-are bytes, (output-there bytes N i h).1.operand.symbol)
+  -- output i
+  module _ (i : ℕ) (l : i < h.m) where
+    row : i < (head_at b).m
+    row = omega (arith, ap (λ (x : Head). x.m) e)
 
-      output_waits : OutputReady net depths (netlist_depth net) symbol
-      output_waits = output_ready bytes N depths D (netlist_depth net) refl i h (o i) refl
+    abbrev o : Output
+    o = output_at b (head_at b).operations i
 
-      signed : ((o i).sign ≡ 2 → ⊥) → (o i).sign ≤ 1
-      signed s = omega (arith, (output-there bytes N i h).1.operand.sign)
+    same : delay_of_output net (output_at b h.operations i) ≡ delay_of_output net o
+    same = ap (λ (q : ℕ). delay_of_output net (output_at b q i)) (operations-are b N h e)
 
-      pub output_known : OutputKnown bytes depths places n (netlist_depth net) (o i)
-      output_known = record {
-        below = output_waits.below;
-        shallower = output_waits.within;
-        within = λ s clocks e. value-within symbol output_here clocks
-            (subst (λ x. x ≤ longest_delay net symbol) (sym (e ∙ output_waits.waits)) (output_covered bytes i h (signed s)));
-        found = λ s clocks e. value_found symbol output_here clocks ∙ ap (source net symbol) (e ∙ output_waits.waits)
-            ∙ sym (by_sign net (o i).sign symbol (signed s));
-        zero_found = λ s. rw s refl;
-      }
+    output_here : o.symbol < symbols net
+    output_here = omega (arith, symbols-are b, (output-there b N i row).1.operand.symbol)
+
+    pub output_known : (d : Delay) → d ≡ delay_of_output net (output_at b h.operations i) → DelayKnown net places h.n d
+    output_known d r = subst (DelayKnown net places h.n) (sym (r ∙ same))
+        (known (delay_of_output net o) output_here (sign_covered net o.sign o.symbol (output_covered b i row)))
+
+    pub outputs_next : (d : Delay) → d ≡ delay_of_output net (output_at b h.operations i)
+        → (x : ℕ) → x ≡ source_at h.n (get_or places d.symbol 0) d.symbol d.clocks
+        → (sources : List ℕ) → OutputsBefore b i sources → OutputsBefore b (suc i) (set sources i x)
+    outputs_next d r x f sources B = record {
+      room = length-set sources i x ∙ B.room;
+      output = below_next 0 sources (λ j. output_source net (output_at b (head_at b).operations j)) i x
+          (omega (arith, B.room, row, (head-limits b N).limits.rows-most))
+          (f ∙ (output_known d r).found ∙ ap (λ (y : Delay). source net y.symbol y.clocks) (r ∙ same) ∙ by_sign net o.sign o.symbol) B.output;
+    }
+
+  pub outputs-all : (i : ℕ) → i ≡ h.m → (sources : List ℕ) → OutputsBefore b i sources → OutputsHeld b sources
+  outputs-all i all sources B = record { room = B.room; output = λ j l. B.output j (omega (arith, ap (λ (x : Head). x.m) e)) }
+
+-- ---- of a netlist with its depths
+
+module _ (D : NetlistDepths) (places : List ℕ) (P : PlacesHeld (netlist_in D.netlist.bytes.now) places) where
+  abbrev b : List ℕ
+  b = D.netlist.bytes.now
+
+  abbrev head : Head
+  head = D.netlist.head
+
+  pub first-of : (k : ℕ) → k < head.operations → (d : Delay) → d ≡ first_delay (netlist_in b) (head.n + k) (operation_at b k) → DelayKnown (netlist_in b) places head.n d
+  first-of = first_known b D.netlist.read head D.netlist.head_read places P
+
+  pub second-of : (k : ℕ) → k < head.operations → (d : Delay) → d ≡ second_delay (netlist_in b) (head.n + k) (operation_at b k) → DelayKnown (netlist_in b) places head.n d
+  second-of = second_known b D.netlist.read head D.netlist.head_read places P
+
+  pub output-of : (i : ℕ) → i < head.m → (d : Delay) → d ≡ delay_of_output (netlist_in b) (output_at b head.operations i) → DelayKnown (netlist_in b) places head.n d
+  output-of = output_known b D.netlist.read head D.netlist.head_read places P

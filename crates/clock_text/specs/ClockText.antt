@@ -1,7 +1,7 @@
 -- Document 01, "Programs": what the program clock-bank prints for a netlist and a list of samples, both given as bytes.
 -- Assumes nothing.
 use Rattle.std.specs.Prelude.{ℕ, zero, suc, List, pos}
-use Rattle.board_rules.specs.Table.{filled}
+use Rattle.arrays.specs.Filled.{filled}
 use Rattle.text.specs.Text.{refused_line}
 use Rattle.clock_text.specs.Lines.{clock_lines}
 use Rattle.clock_text.specs.ListBytes.{outputs_of, bytes_outputs, clocked_answer}

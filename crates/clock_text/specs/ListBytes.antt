@@ -2,7 +2,7 @@
 -- Assumes nothing.
 use Rattle.std.specs.Prelude.{ℕ, zero, suc, ◌*◌, ◌/◌, ◌%◌, Bool, true, false, ◌&&◌, List, [], ◌++◌, leb, eqb, ℤ, pos, length, take, drop}
 use Rattle.limits.specs.Limits.{max_rows}
-use Rattle.board_rules.specs.Table.{filled}
+use Rattle.arrays.specs.Filled.{filled}
 use Rattle.netlist_rules.specs.declared.RunAnswer.{RunAnswer}
 use Rattle.netlist_rules.specs.Read.{read_answer}
 use Rattle.netlist_rules.specs.Run.{ran}

@@ -1,5 +1,5 @@
 // Document 01, "Programs": the text of clock-bank, a line of outputs a clock, each in decimal, one blank between two. Rests on `run_text` for
-// a number with its sign, on `text` and on `bytes`.
+// a number with its sign, on `text` and on `byte_slices`.
 #![tactic(auto)]
 
 pub mod lists; // lists.rt: clock, with the samples given as bytes
@@ -38,6 +38,7 @@ fn write_outputs(outputs: &[i64], text: &mut [u8]) -> usize
 {
     let mut at: usize = 0;
     let count = outputs.len();
+    // By index: the last one has another end.
     for i in 0..count {
         at += write_separated(outputs[i], i + 1 < count, &mut text[at..]);
     }
@@ -56,17 +57,11 @@ fn write_there(outputs: &[i64], rows: usize, clock: usize, text: &mut [u8]) -> u
 }
 
 // Whether the outputs of a clock are there, of so many rows.
+#[tactic(auto, unfolding(crate::specs::Lines::line_there))]
 fn line_there(outputs: &[i64], rows: usize, clock: usize) -> bool
     ensures { result ≡ line_there rows (length outputs.now) clock }
 {
-    let count = outputs.len();
-    if rows > MAX_ROWS {
-        return false;
-    }
-    if clock > count {
-        return false;
-    }
-    clock * rows + rows <= count
+    rows <= MAX_ROWS && clock <= outputs.len() && clock * rows + rows <= outputs.len()
 }
 
 // Writes the line of a clock at the start of the lent bytes and answers how long it is; nothing where they are too few, or the outputs of the
@@ -78,6 +73,7 @@ pub fn write_line(outputs: &[i64], rows: usize, clock: usize, text: &mut [u8]) -
     if !line_there(outputs, rows, clock) {
         return 0;
     }
+    // A closure that asks for room would need the whole equation again as its contract, for one `if`.
     if text.len() < LONGEST_CLOCK_LINE {
         return 0;
     }
@@ -89,6 +85,7 @@ pub fn write_refusal(refusal: u8, place: usize, text: &mut [u8]) -> usize
     ensures wrote { Wrote text.old text.new result (text_in longest_refused_line (length text.old) (refused_line refusal place)) }
     ensures prefix_length { PrefixLength result text.new }
 {
+    // As in write_line.
     if text.len() < LONGEST_REFUSED_LINE {
         return 0;
     }

@@ -5,8 +5,10 @@ ghost use Rattle.limits.specs.Limits.{max_rows};
 ghost use Rattle.clock_rules.specs.Answer.{clock_answer, clock_outputs};
 ghost use Rattle.clock_text.specs.ListBytes.{most_samples, store_length, store_lent, or_not_whole, bytes_answer, bytes_outputs, clocked_answer, outputs_after, fitting, clocked_in, outputs_in};
 
+use arrays::filled;
 use limits::MAX_ROWS;
 use netlist_rules::RunAnswer;
+use refusals::Refusal;
 use run_text::samples::fill_samples;
 
 // The longest list.
@@ -19,6 +21,7 @@ pub const MOST_OUTPUTS: usize = MAX_ROWS * MOST_SAMPLES;
 const STORE_LENGTH: usize = 131072;
 
 // What clock_bytes returns: a refusal and its place, the m that read says, and how many clocks there are, one for each vector.
+// No Result, since the equation of clock_bytes gives rows and clocks beside a refusal too.
 #[derive(Clone, Copy)]
 pub struct Clocked {
     pub refusal: u8,
@@ -27,24 +30,12 @@ pub struct Clocked {
     pub clocks: usize,
 }
 
-fn blank_samples() -> [i32; MOST_SAMPLES]
-    ensures { most_samples ≡ length result }
-{
-    [0; MOST_SAMPLES]
-}
-
-fn blank_store() -> [i64; STORE_LENGTH]
-    ensures { result ≡ store_lent }
-{
-    [0; STORE_LENGTH]
-}
-
-// Clock on a list, with a store of its own.
+// Clock on a list, with a store of its own. These functions hand on the documented call's answer, by the equations of `clock_answer`.
 fn clock_list(netlist: &[u8], samples: &[i32], outputs: &mut [i64]) -> RunAnswer
     ensures value { result ≡ clock_answer netlist.now samples.now store_length (length outputs.old) }
     ensures outputs_after { outputs.new ≡ clock_outputs netlist.now samples.now store_lent outputs.old }
 {
-    let mut store = blank_store();
+    let mut store: [i64; STORE_LENGTH] = filled(0);
     clock::clock(netlist, samples, &mut store, outputs)
 }
 
@@ -55,11 +46,12 @@ fn not_whole(netlist: &[u8]) -> RunAnswer
     let samples: [i32; 0] = [0; 0];
     let mut outputs: [i64; 0] = [0; 0];
     let empty = clock_list(netlist, &samples, &mut outputs);
+    // A number, since the documented call answers by `clock_answer`.
     if empty.refusal != 0 {
         return empty;
     }
     RunAnswer {
-        refusal: 15,
+        refusal: Refusal::SampleCount.number(),
         place: 0,
     }
 }
@@ -74,7 +66,7 @@ fn clock_on_bytes(netlist: &[u8], bytes: &[u8], outputs: &mut [i64]) -> RunAnswe
         return not_whole(netlist);
     }
     let count = bytes.len() / 4;
-    let mut samples = blank_samples();
+    let mut samples: [i32; MOST_SAMPLES] = filled(0);
     fill_samples(bytes, &mut samples[..count]);
     clock_list(netlist, &samples[..count], outputs)
 }
@@ -99,13 +91,11 @@ fn clock_fitting(netlist: &[u8], bytes: &[u8], outputs: &mut [i64]) -> Clocked
 }
 
 // Whether the list is no longer than the longest, and as many outputs are lent as such a list can have.
+#[tactic(auto, unfolding(crate::specs::ListBytes::fitting))]
 fn list_fits(bytes: &[u8], outputs: usize) -> bool
     ensures { result ≡ fitting bytes.now outputs }
 {
-    if bytes.len() > 4 * MOST_SAMPLES {
-        return false;
-    }
-    MOST_OUTPUTS <= outputs
+    bytes.len() <= 4 * MOST_SAMPLES && MOST_OUTPUTS <= outputs
 }
 
 // Clock on a list of samples as bytes; nothing where it is longer than the longest, or too few outputs are lent.

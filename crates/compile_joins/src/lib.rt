@@ -13,19 +13,19 @@ use layout_rules::{Operation, Output};
 use term::Term;
 
 // 0 add or plus, 1 subtract or minus.
+#[tactic(auto, unfolding(sum_rules::specs::Joins::sign_field))]
 fn sign_field(minus: bool) -> u8
     ensures { result ≡ sign_field minus }
 {
-    if minus { 1 } else { 0 }
+    u8::from(minus)
 }
 
-// One operation per divisor.
+// One operation per divisor; no `From`, since both types are of other crates.
 pub fn divisor_operation(d: Divisor) -> Operation
     ensures { result ≡ divisor_operation d }
 {
-    let sign = sign_field(d.minus);
     Operation {
-        sign,
+        sign: sign_field(d.minus),
         a: d.a,
         sa: d.ea,
         b: d.b,
@@ -48,14 +48,15 @@ impl Operands {
         ensures second_value { result.second ≡ second_operand order_of_operands t u }
     {
         if t.negative() && !u.negative() {
-            return Operands {
+            Operands {
                 first: u,
                 second: t,
-            };
-        }
-        Operands {
-            first: t,
-            second: u,
+            }
+        } else {
+            Operands {
+                first: t,
+                second: u,
+            }
         }
     }
 }
@@ -64,9 +65,8 @@ impl Operands {
 pub fn join_operation(first: Term, second: Term) -> Operation
     ensures { result ≡ join_operation first second }
 {
-    let sign = sign_field(first.negative() != second.negative());
     Operation {
-        sign,
+        sign: sign_field(first.negative() != second.negative()),
         a: first.symbol(),
         sa: first.exponent(),
         b: second.symbol(),
@@ -83,13 +83,12 @@ pub fn joined_term(symbol: u16, first: Term) -> Term
     Term::joined(symbol, first.negative())
 }
 
-// The output of a row's last term.
+// The output of a row's last term; no `From`, since both types are of other crates.
 pub fn term_output(t: Term) -> Output
     ensures { result ≡ term_output t }
 {
-    let sign = sign_field(t.negative());
     Output {
-        sign,
+        sign: sign_field(t.negative()),
         symbol: t.symbol(),
         shift: t.exponent(),
         width: 0,

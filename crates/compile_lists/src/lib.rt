@@ -1,5 +1,5 @@
-// Document 01, "Netlist and board machine": the operations and the outputs of a netlist, by value. Rests on `limits` and `layout_rules`,
-// and on `elimination_rows` for laws of lists by value.
+// Document 01, "Netlist and board machine": the operations and the outputs of a netlist, by value. Rests on `limits`,
+// `lists` and `layout_rules`.
 #![tactic(auto)]
 
 pub mod operations; // operations.rt: the operations

@@ -14,6 +14,7 @@ fn write_output(matrix: &[u8], sample_width: u8, output: &mut [u8]) -> usize
     ensures { Wrote output.old output.new result (compile_output sample_width matrix.now) }
 {
     let answer = compile::compile(matrix, sample_width, output);
+    // A number, since the documented call answers by `compile_answer`.
     if answer.refusal != 0 {
         return text::write_refused(answer.refusal, answer.place, output);
     }
@@ -25,6 +26,7 @@ pub fn write_compiled(matrix: &[u8], sample_width: u8, output: &mut [u8]) -> usi
     ensures wrote { Wrote output.old output.new result (compile_output_in (length output.old) sample_width matrix.now) }
     ensures prefix_length { PrefixLength result output.new }
 {
+    // A closure that asks for room would need the whole equation again as its contract, for one `if`.
     if output.len() < ENOUGH_BYTES {
         return 0;
     }

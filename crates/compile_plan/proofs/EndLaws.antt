@@ -10,7 +10,10 @@ use Rattle.elimination_rules.specs.declared.Divisor.{Divisor}
 use Rattle.elimination_rules.specs.Rows.{Row, plain_count}
 use Rattle.elimination_rules.specs.Divisors.{score}
 use Rattle.elimination_rules.specs.Lookup.{Proper}
-use Rattle.elimination_rules.specs.Elimination.{TieOrder, symbol_depths, shallower, shallowest_first, Scored, pick, rows_after, Eliminated, ended, eliminate}
+use Rattle.elimination_rules.specs.Elimination.{TieOrder, symbol_depths, shallower, shallowest_first, Scored, no_pairs, pick, rows_after, Eliminated, ended, eliminate}
+use Rattle.elimination_rules.specs.Rank.{lower_rank}
+use Rattle.kept_rules.specs.Kept.{Kept, best_entry}
+use Rattle.kept_rules.proofs.TablePick.{table-pick_by_rank}
 use Rattle.elimination_rules.proofs.Order.{DivisorWithin, divisor-within}
 use Rattle.elimination_rules.proofs.Counts.{plain-after}
 use Rattle.elimination_rules.proofs.Pick.{pick-score}
@@ -99,6 +102,11 @@ module _ {most n : ℕ} {first : List Row} {left symbol : ℕ} {operations : Lis
   -- the next symbol is at most one past those of terms
   pub symbols-few : n ≤ max_columns → symbol ≤ term_symbols
   symbols-few h = omega (arith, b.next_symbol, b.few)
+
+  -- the best of the kept scores is the pick
+  pub best_picked : n ≤ max_columns → (kept : List Scored) → Kept rows kept → (best : Scored) → best ≡ best_entry (lower_rank table) no_pairs kept → best ≡ pick (shallower table) rows
+  best_picked h kept of best e =
+      e ∙ table-pick_by_rank positions symbol (omega arith) (omega (arith, symbols-few h)) rows b.ready.well_formed kept of table
 
   pub spent_is : left ≡ 0 → record { divisors = b.made; replacements = k; remaining_rows = rows } ≡ eliminate (shallowest_first n) most n [] first
   spent_is z =

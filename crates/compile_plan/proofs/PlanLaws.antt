@@ -1,10 +1,10 @@
 -- Document 01, "Netlist and board machine": what a matrix record that is not declined gives each part of compile, and compile's answer.
 -- Assumes nothing.
 use Prim.Native.Nat.{ℕ, ◌+◌, ◌≤◌, ◌<◌}
-use mathlib.Core.Path.{◌≡◌, refl, ap, ◌∙◌}
+use mathlib.Core.Path.{◌≡◌, refl, ap, ap₂, subst, ◌∙◌}
 use mathlib.Core.List.{List, [], ◌++◌, map}
 use native.Mathlib.Omega.{arith}
-use lib.ListN.{length}
+use lib.ListN.{length, length-map}
 use Rattle.limits.specs.Limits.{max_rows, positions, max_operations}
 use Rattle.layout_rules.specs.declared.Operation.{Operation}
 use Rattle.layout_rules.specs.declared.Output.{Output}
@@ -16,6 +16,9 @@ use Rattle.elimination_rules.proofs.Order.{Columns, steps_well_formed}
 use Rattle.elimination_rules.proofs.Counts.{steps_plain}
 use Rattle.elimination_rows.specs.State.{Ready}
 use Rattle.elimination_rows.proofs.Ready.{ready_matrix}
+use Rattle.compile_lists.specs.Lists.{operations_list}
+use Rattle.compile_plan.specs.declared.eliminated.Eliminated.{Eliminated as Ended}
+use Rattle.compile_plan.specs.Planned.{EliminatedOf}
 use Rattle.sum_rules.specs.Joins.{divisor_operation}
 use Rattle.sum_rules.specs.Shallowest.{order_of_operands, depths_of, sum_operations, sum_outputs}
 use Rattle.sum_rules.specs.SumDepth.{EachTerm}
@@ -80,10 +83,20 @@ unfolding outputs_of
 outputs-of k end made all remaining m a r = a ∙ rw (m, r)
 
 -- elimination makes at most as many steps as the plain count
-pub enough_steps_lem : (n : ℕ) (first : List Row) (most : ℕ) → most ≡ plain_count first → eliminate (shallowest_first n) most n [] first ≡ elimination (shallowest_first n) n first
+enough_steps_lem : (n : ℕ) (first : List Row) (most : ℕ) → most ≡ plain_count first → eliminate (shallowest_first n) most n [] first ≡ elimination (shallowest_first n) n first
 unfolding elimination
 enough_steps_lem n first most e = ap (λ (k : ℕ). eliminate (shallowest_first n) k n [] first) e
 
-pub elimination-is : (bytes : List ℕ) → elimination (shallowest_first (columns bytes)) (columns bytes) (matrix_rows positions (matrix bytes)) ≡ elimination_of bytes
+elimination-is : (bytes : List ℕ) → elimination (shallowest_first (columns bytes)) (columns bytes) (matrix_rows positions (matrix bytes)) ≡ elimination_of bytes
 unfolding matrix_elimination
 elimination-is bytes = refl
+
+-- of the matrix's rows, with as many steps as their plain count, that is the matrix's elimination
+pub planned_end : (bytes : List ℕ) (n : ℕ) → n ≡ columns bytes → (first : List Row) → first ≡ matrix_rows positions (matrix bytes) → (most : ℕ) → most ≡ plain_count first
+    → (end : Ended) → EliminatedOf n (eliminate (shallowest_first n) most n [] first) end → EliminatedOf n (elimination_of bytes) end
+planned_end bytes n is first rows most all end of =
+    subst (λ (e : Eliminated). EliminatedOf n e end)
+    (enough_steps_lem n first most all ∙ ap₂ (λ (k : ℕ) (rs : List Row). elimination (shallowest_first k) k rs) is rows ∙ elimination-is bytes) of
+
+pub end-made : (bytes : List ℕ) (n : ℕ) (end : Ended) → EliminatedOf n (elimination_of bytes) end → length (operations_list end.operations) ≡ length (elimination_of bytes).divisors
+end-made bytes n end of = ap length of.operations ∙ length-map (elimination_of bytes).divisors divisor_operation

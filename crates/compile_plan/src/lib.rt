@@ -11,6 +11,7 @@ ghost use Rattle.compile_plan.specs.Planned.{PlannedOf};
 
 use compile_lists::operations::Operations;
 use compile_lists::outputs::Outputs;
+use elimination_kept::KeptScores;
 
 #[derive(Clone, Copy)]
 pub struct Planned {
@@ -29,16 +30,12 @@ pub fn plan(matrix: &[u8]) -> Planned
     let n = layout_matrix::column_count(matrix) as usize;
     let first = rows::matrix_rows(matrix);
     let plain = compile_sums::plain_count(first);
-    let mut keys = elimination_kept::blank_keys();
-    let mut scores = elimination_kept::blank_scores();
-    let end = eliminated::eliminate_rows(first, n as u16, plain, &mut keys, &mut scores);
-    let made = end.operations;
-    let divisors = made.count();
-    let remaining = end.rows;
+    let mut kept = KeptScores::empty();
+    let end = eliminated::eliminate_rows(first, n as u16, plain, &mut kept);
+    let divisors = end.operations.count();
+    let mut operations = end.operations;
     let mut depths = end.depths;
-    let joined = compile_sums::sum_rows(made, remaining, n, &mut depths);
-    let operations = joined.operations;
-    let outputs = joined.outputs;
+    let outputs = compile_sums::sum_rows(&mut operations, end.rows, n, &mut depths);
     Planned {
         operations,
         outputs,

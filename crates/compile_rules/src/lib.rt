@@ -5,7 +5,8 @@
 ghost use Rattle.std.specs.Prelude.{◌≡◌};
 ghost use Rattle.compile_rules.specs.Compile.{compile_refused};
 
-// What compile returns: a refusal and its place, or the bytes written and the counts.
+// What compile returns: a refusal and its place, or the bytes written and the counts. The refusal is a number, since the C interface has it
+// so and `compile_answer` and `Claim` speak of it.
 #[derive(Clone, Copy)]
 pub struct CompileAnswer {
     pub refusal: u8,

@@ -5,8 +5,8 @@ use mathlib.Core.Path.{◌≡◌, refl, sym, ap, ap₂, subst, ◌∙◌}
 use mathlib.Core.List.{List, [], ◌∷◌, ◌++◌, append_assoc, append-nil}
 use native.Mathlib.Omega.{arith}
 use native.Mathlib.Numerals.{add-one}
-use lib.ListN.{length, get_or, set, take, drop, replicate, length-append, drop_of_length-le}
-use lib.Seq.{length-take-le, drop-cons, drop_at}
+use lib.ListN.{length, get_or, set, drop, replicate, length-append, drop_of_length-le}
+use lib.Seq.{drop-cons}
 use Rattle.limits.specs.Limits.{max_columns, max_operations, max_symbols}
 use Rattle.term.specs.declared.Term.{Term}
 use Rattle.layout_rules.specs.declared.Operation.{Operation}
@@ -53,36 +53,37 @@ behind_more os o s = ap (λ (l : List Operation). record { operations = l; outpu
 abbrev joins_behind : ℕ → List Operation → Row → RowSum
 joins_behind n os r = behind os (placing_joins_of order_of_operands (length r) (depths_of n os) r)
 
--- a row in order, `first`, is joined behind the operations `made`. There are the operations `os` so far, with their depths in the table, and
--- the terms `r` are left: their joins behind `os` come to those of the row
-pub record BeforeJoin (n : ℕ) (made : List Operation) (first : Row) (os : List Operation) (table : List ℕ) (r : Row) : Type 0 where
+-- a row is joined behind the operations `made`. There are the operations `os` so far, with their depths in the table, and the terms `r` are
+-- left: their joins behind `os` come to those of the row
+pub record BeforeJoin (n : ℕ) (made : List Operation) (row : Row) (os : List Operation) (table : List ℕ) (r : Row) : Type 0 where
   pub depths-held : HoldsDepths n os table
   pub below : EachTerm (Below (n + length os)) r
-  pub counted : length os + pred (length r) ≡ length made + pred (length first)
-  pub rest : joins_behind n os r ≡ joins_behind n made first
+  pub few : length os + pred (length r) ≤ max_operations
+  pub rest : joins_behind n os r ≡ behind made (sum_of order_of_operands (depths_of n made) row)
 
+-- the row in order
 module _ (n : ℕ) (made : List Operation) (row : Row) (table : List ℕ) (H : HoldsDepths n made table) (h : EachTerm (Below (n + length made)) row)
     (first : Row) (e : first ≡ row_in_order table row) where
   in_order_by_table : first ≡ row_in_order (depths_of n made) row
   in_order_by_table = e ∙ in_order-same table (depths_of n made) row (table_same n made table H row h)
 
-  pub length-first : length first ≡ length row
+  length-first : length first ≡ length row
   length-first = ap length in_order_by_table ∙ sym (length_permuted (in_order_permuted (depths_of n made) row))
 
-  pub before-first : BeforeJoin n made first made table first
-  before-first =
-      record {
-        depths-held = H;
-        below = subst (EachTerm (Below (n + length made))) (sym e) (each_permuted (Below (n + length made)) (in_order_permuted table row) h);
-        counted = refl;
-        rest = refl;
-      }
-
-  pub first-sum : placing_joins_of order_of_operands (length first) (depths_of n made) first ≡ sum_of order_of_operands (depths_of n made) row
+  first-sum : placing_joins_of order_of_operands (length first) (depths_of n made) first ≡ sum_of order_of_operands (depths_of n made) row
   first-sum =
       let ds : List ℕ = depths_of n made in
       ap₂ (λ (k : ℕ) (q : Row). placing_joins_of order_of_operands k ds q) length-first in_order_by_table
       ∙ placing_sum order_of_operands ds row (each_term (Below (n + length made)) (HasDepth ds) (λ t k. omega (arith, length-depths-of n made)) row h)
+
+  pub before-first : length made + pred (length row) ≤ max_operations → BeforeJoin n made row made table first
+  before-first few =
+      record {
+        depths-held = H;
+        below = subst (EachTerm (Below (n + length made))) (sym e) (each_permuted (Below (n + length made)) (in_order_permuted table row) h);
+        few = omega (arith, length-first);
+        rest = ap (behind made) first-sum;
+      }
 
 -- one join, and what comes after it
 placing_join : (ds : List ℕ) (t u : Term) (r : Row) → (let o = join_of order_of_operands t u in
@@ -92,25 +93,27 @@ placing_join : (ds : List ℕ) (t u : Term) (r : Row) → (let o = join_of order
 unfolding placing_joins_of
 placing_join ds t u r = refl
 
-module _ {n : ℕ} {made : List Operation} {first : Row} {os : List Operation} {table : List ℕ} {r : Row} (b : BeforeJoin n made first os table r) where
+module _ {n : ℕ} {made : List Operation} {row : Row} {os : List Operation} {table : List ℕ} {r : Row} (b : BeforeJoin n made row os table r) where
   -- at the end, no join is left
-  module _ (whole : RowSum) (w : placing_joins_of order_of_operands (length first) (depths_of n made) first ≡ whole) where
-    ended : (o : Output) → record { operations = []; output = o } ≡ placing_joins_of order_of_operands (length r) (depths_of n os) r
-        → (os ≡ made ++ whole.operations) × (o ≡ whole.output)
-    ended o e =
-        let all : behind os (record { operations = []; output = o }) ≡ behind made whole = ap (behind os) e ∙ b.rest ∙ ap (behind made) w in
-        (sym (append-nil os) ∙ ap (λ (s : RowSum). s.operations) all, ap (λ (s : RowSum). s.output) all)
+  abbrev whole : RowSum
+  whole = sum_of order_of_operands (depths_of n made) row
 
-    pub none_left : r ≡ [] → (os ≡ made ++ whole.operations) × (zero_output ≡ whole.output)
-    unfolding placing_joins_of
-    none_left e = ended zero_output (rw e refl)
+  ended : (o : Output) → record { operations = []; output = o } ≡ placing_joins_of order_of_operands (length r) (depths_of n os) r
+      → (os ≡ made ++ whole.operations) × (o ≡ whole.output)
+  ended o e =
+      let all : behind os (record { operations = []; output = o }) ≡ behind made whole = ap (behind os) e ∙ b.rest in
+      (sym (append-nil os) ∙ ap (λ (s : RowSum). s.operations) all, ap (λ (s : RowSum). s.output) all)
 
-    pub one_left : (t : Term) → r ≡ t ∷ [] → (os ≡ made ++ whole.operations) × (term_output t ≡ whole.output)
-    unfolding placing_joins_of
-    one_left t e = ended (term_output t) (rw e refl)
+  pub none_left : r ≡ [] → (os ≡ made ++ whole.operations) × (zero_output ≡ whole.output)
+  unfolding placing_joins_of
+  none_left e = ended zero_output (rw e refl)
+
+  pub one_left : (t : Term) → r ≡ t ∷ [] → (os ≡ made ++ whole.operations) × (term_output t ≡ whole.output)
+  unfolding placing_joins_of
+  one_left t e = ended (term_output t) (rw e refl)
 
   -- the first two terms are joined
-  module _ (columns : n ≤ max_columns) (few : length made + pred (length first) ≤ max_operations) (t u : Term) (others : Row) (e : r ≡ t ∷ u ∷ others) where
+  module _ (columns : n ≤ max_columns) (t u : Term) (others : Row) (e : r ≡ t ∷ u ∷ others) where
     abbrev o : Operation
     o = join_of order_of_operands t u
 
@@ -122,7 +125,7 @@ module _ {n : ℕ} {made : List Operation} {first : Row} {os : List Operation} {
     left_below = each_permuted (Below (n + length os)) (operands_permuted order_of_operands t u others) (subst (EachTerm (Below (n + length os))) e b.below)
 
     pub room : length os < max_operations
-    room = omega (arith, ap (length {A = Term}) e, b.counted)
+    room = omega (arith, ap (length {A = Term}) e, b.few)
 
     pub operands_within : ((join_of order_of_operands t u).a < max_symbols) × ((join_of order_of_operands t u).b < max_symbols)
     operands_within = (omega (arith, room, left_below.0), omega (arith, room, left_below.1.0))
@@ -176,12 +179,12 @@ module _ {n : ℕ} {made : List Operation} {first : Row} {os : List Operation} {
         ∙ sym (ap (joins_behind n os) e)
 
     pub before_next : (after : List Operation) (table_now : List ℕ) (left : Row) → after ≡ os ++ (o ∷ []) → table_now ≡ table_after → left ≡ placed table_after new others
-        → BeforeJoin n made first after table_now left
+        → BeforeJoin n made row after table_now left
     before_next after table_now left a d l =
         rw (a, d, l) (record {
           depths-held = held_after;
           below = each_permuted (Below (n + length (os ++ (o ∷ [])))) (placed_permuted table_after new others) after-below;
-          counted = omega (arith, length_more, length-placed, ap (length {A = Term}) e, b.counted);
+          few = omega (arith, length_more, length-placed, ap (length {A = Term}) e, b.few);
           rest = rest-after ∙ b.rest;
         })
 
@@ -196,5 +199,10 @@ module _ (terms : Row) (at : ℕ) where
   pub one_at_end : length terms ≡ at + 1 → drop at terms ≡ get_or terms at no_term ∷ []
   one_at_end h = drop-cons terms at no_term (omega arith) ∙ ap (λ (q : Row). get_or terms at no_term ∷ q) (drop_of_length-le terms {i = suc at} (omega arith))
 
-  pub put_at_end : (r after : Row) → at ≤ length terms → after ≡ take at terms ++ r → drop at after ≡ r
-  put_at_end r after h e = ap (drop at) e ∙ drop_at (take at terms) r at (length-take-le at terms h)
+-- before a join of such terms there is room for one more operation and its symbol
+pub next_fits : {n : ℕ} {made : List Operation} {row : Row} {table : List ℕ} {os : List Operation} (terms : Row) (at : ℕ)
+    → BeforeJoin n made row os table (drop at terms) → n ≤ max_columns → at + 1 < length terms
+    → (length os < max_operations) × (n + length os < max_symbols)
+next_fits terms at b columns h =
+    let few = room b columns _ _ _ (two_at_end terms at h) in
+    (omega (arith, few), omega (arith, few))

@@ -139,9 +139,8 @@ module _ (s n : ℕ) (os : List Operation) where
     pub operation-written : (head : ℕ) (buffer last : List ℕ) (p : Operation) (place : ℕ) → p ≡ get_or os k no_operation → place ≡ operation_place head k
         → operation_place head (length os) ≤ length buffer
         → last ≡ operation_bytes (with_width (width s (operation_row table n p)) p) ++ drop operation_length (take (length buffer - place) (drop place buffer))
-        → (length (put_mid place (length buffer - place) buffer last) ≡ length buffer)
-        × (written (put_mid place (length buffer - place) buffer last) (operation_place head (suc k)) (flat_map operation_bytes (recorded_from (suc k)))
-        ≡ written buffer (operation_place head k) (flat_map operation_bytes (recorded_from k)))
+        → written (put_mid place (length buffer - place) buffer last) (operation_place head (suc k)) (flat_map operation_bytes (recorded_from (suc k)))
+        ≡ written buffer (operation_place head k) (flat_map operation_bytes (recorded_from k))
     operation-written head buffer last p place e at room f =
         let x : Operation = with_width (width s (entry_form n os (n + k))) o in
         let same : with_width (width s (operation_row table n p)) p ≡ x =
@@ -150,17 +149,9 @@ module _ (s n : ℕ) (os : List Operation) where
         f ∙ ap (λ (q : Operation). operation_bytes q ++ drop operation_length (take (length buffer - place) (drop place buffer))) same in
         let both = part_next operation_bytes operation_length length-operation buffer last place (operation_place head (suc k)) x (recorded_from (suc k)) (omega arith)
         (omega (arith, length-recorded (suc k) h)) is in
-        (both.0, both.1 ∙ ap₂ (λ (j : ℕ) (l : List Operation). written buffer j (flat_map operation_bytes l)) at (sym (recorded_next k h)))
+        both.1 ∙ ap₂ (λ (j : ℕ) (l : List Operation). written buffer j (flat_map operation_bytes l)) at (sym (recorded_next k h))
 
 -- ---- depths, whatever the sample width
-
-pub writable_earlier : {s n : ℕ} {os : List Operation} → Writable (compiled_limits s) n os → EarlierOperations n os
-writable_earlier w = record {
-  inputs = w.inputs;
-  few = w.few;
-  first_earlier = λ k h. (w.operation k h).first_earlier;
-  second_earlier = λ k h. (w.operation k h).second_earlier;
-}
 
 module _ (n : ℕ) (os : List Operation) (w : EarlierOperations n os) (table : List ℕ) (k : ℕ) (h : k < length os) (H : HoldsDepths n (take k os) table) where
   up_to_next : take k os ++ (get_or os k no_operation ∷ []) ≡ take (suc k) os
@@ -197,17 +188,14 @@ module _ (head : ℕ) (f : Output → Output) (outputs : List Output) (operation
   pub output-written : i < length outputs → (buffer last : List ℕ) (o : Output) (place : ℕ) → o ≡ get_or outputs i no_output → place ≡ output_place head operations i
       → output_place head operations (length outputs) ≤ length buffer
       → last ≡ output_bytes (f o) ++ drop output_length (take (length buffer - place) (drop place buffer))
-      → (length (put_mid place (length buffer - place) buffer last) ≡ length buffer)
-      × (written (put_mid place (length buffer - place) buffer last) (output_place head operations (suc i)) (flat_map output_bytes (map f (drop (suc i) outputs)))
-      ≡ written buffer (output_place head operations i) (flat_map output_bytes (map f (drop i outputs))))
+      → written (put_mid place (length buffer - place) buffer last) (output_place head operations (suc i)) (flat_map output_bytes (map f (drop (suc i) outputs)))
+      ≡ written buffer (output_place head operations i) (flat_map output_bytes (map f (drop i outputs)))
   output-written h buffer last o place e at room g =
       let both = part_next output_bytes output_length length-output buffer last place (output_place head operations (suc i)) (f o) (map f (drop (suc i) outputs)) (omega arith)
-      (omega (arith, length-map (drop (suc i) outputs) f, length-drop (suc i) outputs)) g in (
-        both.0,
-        both.1
-            ∙ ap₂ (λ (j : ℕ) (p : Output). written buffer j (flat_map output_bytes (f p ∷ map f (drop (suc i) outputs)))) at e
-            ∙ ap (λ (l : List Output). written buffer (output_place head operations i) (flat_map output_bytes (map f l))) (sym (drop-cons outputs i no_output h)),
-      )
+      (omega (arith, length-map (drop (suc i) outputs) f, length-drop (suc i) outputs)) g in
+      both.1
+      ∙ ap₂ (λ (j : ℕ) (p : Output). written buffer j (flat_map output_bytes (f p ∷ map f (drop (suc i) outputs)))) at e
+      ∙ ap (λ (l : List Output). written buffer (output_place head operations i) (flat_map output_bytes (map f l))) (sym (drop-cons outputs i no_output h))
 
   pub outputs-written : length outputs ≤ i → (buffer : List ℕ) → buffer ≡ written buffer (output_place head operations i) (flat_map output_bytes (map f (drop i outputs)))
   outputs-written h buffer =

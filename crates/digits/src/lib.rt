@@ -11,13 +11,10 @@ use limits::POSITIONS;
 fn digit_of(z: i32) -> i8
     ensures { result ≡ digit z }
 {
-    let remainder = z & 3;
-    if remainder == 1 {
-        1
-    } else if remainder == 3 {
-        -1
-    } else {
-        0
+    match z & 3 {
+        1 => 1,
+        3 => -1,
+        _ => 0,
     }
 }
 
@@ -25,9 +22,8 @@ fn digit_of(z: i32) -> i8
 fn rest_of(z: i32) -> i32
     ensures { result ≡ rest z }
 {
-    let remainder = z & 3;
     let half = z >> 1;
-    if remainder == 3 { half + 1 } else { half }
+    if z & 3 == 3 { half + 1 } else { half }
 }
 
 // The rest is worked in i32, where a carry at the top has room.

@@ -3,8 +3,7 @@
 use Prim.Native.Nat.{ℕ, ◌+◌, ◌*◌, ◌^◌, ◌≤◌, ◌<◌}
 use mathlib.Core.Path.{◌≡◌, refl, sym, ap, ◌∙◌}
 use mathlib.Core.Bool.{Bool, true, false, ◌&&◌, ◌||◌, and-true, and-false, or-false}
-use mathlib.Core.List.Memᴰ
-use mathlib.Core.List.{List, [], ◌∷◌}
+use mathlib.Core.List.{List, Memᴰ, [], ◌∷◌, ◌++◌, append-nil, append_assoc}
 use native.Mathlib.Omega.{arith}
 use native.Mathlib.Nat.{zero-add}
 use borrow.Author.Tests.{eq-eqb, eqb-true, eqb-false, ltb-true, ltb-false}
@@ -12,7 +11,7 @@ use lib.Bits.{bit_or}
 use lib.Dec.{eqb, ltb}
 use lib.ListN.{length, get_or, take, drop, length-set, length-take, length-replicate, get_or-replicate, get_or-eq_default}
 use lib.Pow.{pow_pos}
-use lib.Seq.{get_or-set_same, get_or-set_other, get_or-take, take_all}
+use lib.Seq.{get_or-set_same, get_or-set_other, get_or-take, take_all, drop-length, drop-append_seam}
 use Rattle.limits.specs.Limits.{max_rows, positions, term_symbols}
 use Rattle.term.specs.declared.Term.{Term}
 use Rattle.bits.specs.Bits.{bit_at}
@@ -25,8 +24,6 @@ use Rattle.elimination_rules.proofs.Same.{SamePlace, same_place_lem, place_same}
 use Rattle.elimination_rules.proofs.LookupSigns.{sign_yes, sign_no, none-there}
 use Rattle.elimination_rules.proofs.SignsAfter.{place}
 use Rattle.elimination_masks.specs.Columns.{MasksOf, ColumnsOf}
-use Rattle.elimination_rows.specs.State.{no_term}
-use Rattle.elimination_rows.proofs.Members.{left_next, left_none}
 use Rattle.elimination_columns.specs.Entered.{TermsWithin, mask_place, blank_column, blank_columns, entered_column, entered_term, entered_terms}
 
 -- ---- one mask of a column
@@ -45,9 +42,9 @@ masks_signs signs column i m true e = m.minus-bits e
 pub signs_masks : (signs : ℕ → ℕ) (column : List ℕ) (i : ℕ) → SignsAre signs column i → MasksOf signs (mask_in column false i) (mask_in column true i)
 signs_masks signs column i h = record { plus_bits = h false; minus-bits = h true }
 
-pub place-below : (minus : Bool) (i : ℕ) → i < max_rows → mask_place minus i < 2 * max_rows
-place-below false i h = omega arith
-place-below true i h = omega arith
+pub place_below : (minus : Bool) (i : ℕ) → i < max_rows → mask_place minus i < 2 * max_rows
+place_below false i h = omega arith
+place_below true i h = omega arith
 
 place-apart : (m n : Bool) (k i : ℕ) → k < max_rows → i < max_rows → (k ≡ i → ⊥) → mask_place m k ≡ mask_place n i → ⊥
 place-apart false false k i l h d e = d e
@@ -95,7 +92,7 @@ module _ (i : ℕ) (inside : i < max_rows) where
     unfolding entered_column
     mask-own minus q =
         ap (λ (sign : Bool). mask_in (entered_column i column t) sign i) (sym q)
-        ∙ get_or-set_same column (mask_place t.negative i) _ 0 (omega (arith, long, place-below t.negative i inside))
+        ∙ get_or-set_same column (mask_place t.negative i) _ 0 (omega (arith, long, place_below t.negative i inside))
         ∙ ap (λ (sign : Bool). bit_or (mask_in column sign i) (2 ^ t.exponent)) q
 
     mask_other : (minus : Bool) (k : ℕ) → (mask_place minus k ≡ mask_place t.negative i → ⊥) → mask_in (entered_column i column t) minus k ≡ mask_in column minus k
@@ -205,14 +202,28 @@ module _ (i : ℕ) (inside : i < max_rows) where
 
 -- ---- the terms of a row, one more at a time, from the last on
 
-pub terms_start : (i : ℕ) (columns : List (List ℕ)) (r : Row) (left : ℕ) → length r ≤ left → columns ≡ entered_terms i columns (drop left r)
+pub terms_start : (i : ℕ) (columns : List (List ℕ)) (row left : Row) → left ≡ row → (left ++ drop (length left) row ≡ row) × (columns ≡ entered_terms i columns (drop (length left) row))
 unfolding entered_terms
-terms_start i columns r left h = ap (entered_terms i columns) (sym (left_none r left h))
+terms_start i columns row left e = rw (e, drop-length row) (append-nil row, refl)
 
-pub terms_next : (i : ℕ) (columns : List (List ℕ)) (r : Row) (left next : ℕ) → left ≡ next + 1 → next < length r
-    → entered_term i (entered_terms i columns (drop left r)) (get_or r next no_term) ≡ entered_terms i columns (drop next r)
-unfolding entered_terms
-terms_next i columns r left next e h = rw e (sym (ap (entered_terms i columns) (left_next r next no_term h)))
+-- a term behind those that are left before it
+there : (left : Row) (t : Term) (behind : Row) → Memᴰ t (left ++ t ∷ behind)
+there [] t behind = Memᴰ.head refl
+there (u ∷ left) t behind = Memᴰ.tail (there left t behind)
+
+module _ (row before : Row) (t : Term) (left : Row) (last : before ≡ left ++ t ∷ []) (whole : before ++ drop (length before) row ≡ row) where
+  parts : left ++ t ∷ drop (length before) row ≡ row
+  parts = sym (append_assoc left (t ∷ []) (drop (length before) row)) ∙ ap (λ (r : Row). r ++ drop (length before) row) (sym last) ∙ whole
+
+  behind_left : drop (length left) row ≡ t ∷ drop (length before) row
+  behind_left = ap (drop (length left)) (sym parts) ∙ drop-append_seam left (t ∷ drop (length before) row)
+
+  pub term_within : TermsWithin row → (t.symbol < term_symbols) × (t.exponent < positions)
+  term_within w = w t (rw parts at (there left t (drop (length before) row)))
+
+  pub terms_next : (i : ℕ) (columns : List (List ℕ)) → (left ++ drop (length left) row ≡ row) × (entered_term i (entered_terms i columns (drop (length before) row)) t ≡ entered_terms i columns (drop (length left) row))
+  unfolding entered_terms
+  terms_next i columns = rw behind_left (parts, refl)
 
 -- ---- the rows, one more at a time
 
@@ -226,7 +237,7 @@ pub columns-start : (rows : List Row) → ColumnsOf (take 0 rows) blank_columns
 unfolding blank_columns
 columns-start rows s i h l = signs_masks (sign_at [] s) (get_or blank_columns s []) i (λ minus e.
     ap (λ (column : List ℕ). bit_at (mask_in column minus i) e) (get_or-replicate term_symbols s blank_column [] h)
-    ∙ ap (λ (mask : ℕ). bit_at mask e) (get_or-replicate (2 * max_rows) (mask_place minus i) 0 0 (place-below minus i l))
+    ∙ ap (λ (mask : ℕ). bit_at mask e) (get_or-replicate (2 * max_rows) (mask_place minus i) 0 0 (place_below minus i l))
     ∙ zero_bit e ∙ sym (ap (λ (sign : ℕ). eqb sign (sign_number minus)) (no_terms s e) ∙ no_sign minus))
 
 pub shaped_start : Shaped blank_columns

@@ -1,14 +1,14 @@
 // Document 01, "Elimination": the columns of the rows, as masks. Rests on `elimination_masks` and `elimination_rows`.
+// Symbols, rows and exponents are bounded in clauses: they are plain numbers, and a joined term's symbol may lie above.
 #![tactic(auto)]
 
 ghost use Rattle.std.specs.Prelude.{◌≡◌, ◌<◌, length, set};
 ghost use Rattle.limits.specs.Limits.{max_rows, positions, term_symbols};
 ghost use Rattle.elimination_masks.specs.Columns.{ColumnsOf};
-ghost use Rattle.elimination_rows.specs.State.{row_terms, rows_terms, Ready};
+ghost use Rattle.elimination_rows.specs.State.{rows_terms, Ready};
 ghost use Rattle.elimination_columns.specs.Entered.{TermsWithin, mask_place, blank_columns, entered_column, entered_term, entered_terms};
 
 use elimination_masks::columns::Column;
-use elimination_rows::row::Row;
 use elimination_rows::rows::Rows;
 use limits::{MAX_ROWS, TERM_SYMBOLS};
 use term::Term;
@@ -17,6 +17,7 @@ use term::Term;
 pub type Columns = [Column; TERM_SYMBOLS];
 
 // No terms.
+#[tactic(auto, unfolding(crate::specs::Entered::blank_columns))]
 pub fn blank_columns() -> Columns
     ensures { result ≡ blank_columns }
 {
@@ -24,7 +25,7 @@ pub fn blank_columns() -> Columns
     [none; TERM_SYMBOLS]
 }
 
-// The columns after a step: those of its divisor's symbols, a and b, and that of the new symbol.
+// The columns after a step: those of its divisor's symbols, a and b, and that of the new symbol. Three pairs of one call, so no struct.
 pub fn enter_step(
     columns: &mut Columns,
     a: usize,
@@ -51,6 +52,7 @@ fn mask_place(i: usize, t: Term) -> usize
 }
 
 // A symbol's column with one more of its terms.
+#[tactic(auto, using(crate::proofs::Entering::place_below, bits::proofs::BitLaws::one_shifted), unfolding(crate::specs::Entered::entered_column))]
 fn with_term(column: Column, i: usize, t: Term) -> Column
     requires { (i < max_rows) × (t.exponent < positions) }
     ensures { result ≡ entered_column i column t }
@@ -61,6 +63,7 @@ fn with_term(column: Column, i: usize, t: Term) -> Column
     out
 }
 
+#[tactic(auto, unfolding(crate::specs::Entered::entered_term))]
 fn enter_term(columns: &mut Columns, i: usize, t: Term)
     requires { (i < max_rows) × (t.symbol < term_symbols) × (t.exponent < positions) }
     ensures { columns.new ≡ entered_term i columns.old t }
@@ -70,15 +73,12 @@ fn enter_term(columns: &mut Columns, i: usize, t: Term)
 }
 
 // The terms of a row are entered one by one, from the last on.
-fn enter_row(columns: &mut Columns, i: usize, row: Row)
-    requires { (i < max_rows) × TermsWithin (row_terms row) }
-    ensures { columns.new ≡ entered_terms i columns.old (row_terms row) }
+fn enter_row(columns: &mut Columns, i: usize, row: &[Term])
+    requires { (i < max_rows) × TermsWithin row.now }
+    ensures { columns.new ≡ entered_terms i columns.old row.now }
 {
-    let terms = row.terms();
-    let mut left = row.count();
-    while left > 0 {
-        left -= 1;
-        enter_term(columns, i, terms[left]);
+    for t in row.iter().rev() {
+        enter_term(columns, i, *t);
     }
 }
 
@@ -87,11 +87,7 @@ pub fn enter_rows(columns: &mut Columns, rows: Rows)
     requires { Ready term_symbols (rows_terms rows) × (columns.old ≡ blank_columns) }
     ensures { ColumnsOf (rows_terms rows) columns.new × (length columns.new ≡ term_symbols) }
 {
-    let m = rows.m();
-    let all = rows.all();
-    let mut i = 0;
-    while i < m {
-        enter_row(columns, i, all[i]);
-        i += 1;
+    for (i, row) in rows.as_slice().iter().enumerate() {
+        enter_row(columns, i, row.as_slice());
     }
 }

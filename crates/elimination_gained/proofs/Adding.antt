@@ -13,7 +13,6 @@ use Rattle.elimination_rules.specs.Visit.{InRow}
 use Rattle.elimination_rules.specs.Elimination.{Scored}
 use Rattle.elimination_rules.proofs.Tests.{by_test, by_bool, clash}
 use Rattle.kept_rules.specs.Kept.{gained}
-use Rattle.elimination_kept.specs.Table.{table_of, Room}
 use Rattle.elimination_masks.specs.Columns.{columns_score, columns_first}
 use Rattle.elimination_gained.specs.Gained.{columns_gained, RoomFor}
 
@@ -52,44 +51,35 @@ module _ (first : InRow → Bool) (counts : Divisor → ℕ) where
   pub one_later : (x : InRow) → first x ≡ false → gained first counts (x ∷ []) ≡ []
   one_later x h = gained-later x [] h ∙ gained-none
 
--- a table, and what is left to visit
-pub record Adding (columns : List (List ℕ)) (table : List Scored) (visits : List InRow) (keys scores : List ℕ) (left : ℕ) (rest : List InRow) : Type 0 where
-  pub room : Room keys scores left
-  pub so_far : table_of keys scores left ++ columns_gained columns rest ≡ table ++ columns_gained columns visits
+-- the table so far, and what is left to visit
+abbrev pub Adding : List (List ℕ) → List Scored → List InRow → List Scored → List InRow → Type 0
+Adding columns table visits now rest = now ++ columns_gained columns rest ≡ table ++ columns_gained columns visits
 
-module _ (columns : List (List ℕ)) (visits : List InRow) (keys scores : List ℕ) (left : ℕ) where
-  pub adding_first : Room keys scores left → Adding columns (table_of keys scores left) visits keys scores left visits
-  adding_first room = record { room = room; so_far = refl }
+module _ (columns : List (List ℕ)) (table : List Scored) (visits : List InRow) (now : List Scored) (left : List InRow) (so : Adding columns table visits now left) where
+  pub adding_end : left ≡ [] → now ≡ table ++ columns_gained columns visits
+  adding_end is =
+      sym (append-nil now) ∙ sym (ap (λ (t : List Scored). now ++ t) (ap (columns_gained columns) is ∙ gained-none (columns_first columns) (columns_score columns))) ∙ so
 
-  module _ (table : List Scored) where
-    pub adding_end : Adding columns table visits keys scores left [] → table_of keys scores left ≡ table ++ columns_gained columns visits
-    adding_end so =
-        sym (append-nil (table_of keys scores left)) ∙ sym (ap (λ (t : List Scored). table_of keys scores left ++ t) (gained-none (columns_first columns) (columns_score columns))) ∙ so.so_far
+  pub adding_left : (other : List InRow) → left ≡ other → Adding columns table visits now other
+  adding_left other is = rw (sym is) so
 
-    pub adding_left : (rest other : List InRow) → rest ≡ other → Adding columns table visits keys scores left rest → Adding columns table visits keys scores left other
-    adding_left rest other e so = rw (sym e) so
+  module _ (some rest : List InRow) (is : left ≡ some ++ rest) where
+    all : now ++ (columns_gained columns some ++ columns_gained columns rest) ≡ table ++ columns_gained columns visits
+    all =
+        sym (ap (λ (t : List Scored). now ++ t) (ap (columns_gained columns) is ∙ gained-append (columns_first columns) (columns_score columns) some rest)) ∙ so
 
-    module _ (now rest : List InRow) (so : Adding columns table visits keys scores left (now ++ rest)) where
-      all : table_of keys scores left ++ (columns_gained columns now ++ columns_gained columns rest) ≡ table ++ columns_gained columns visits
-      all = sym (ap (λ (t : List Scored). table_of keys scores left ++ t) (gained-append (columns_first columns) (columns_score columns) now rest)) ∙ so.so_far
+    -- there is room for what comes next
+    pub adding_room : RoomFor table (columns_gained columns visits) → RoomFor now (columns_gained columns some)
+    adding_room h =
+        let whole : length (now ++ (columns_gained columns some ++ columns_gained columns rest)) ≤ max_pairs = rw all h in
+        omega (
+          arith,
+          whole,
+          length-append now (columns_gained columns some ++ columns_gained columns rest),
+          length-append (columns_gained columns some) (columns_gained columns rest),
+          length-append now (columns_gained columns some),
+        )
 
-      -- there is room for what comes next
-      pub adding_room : RoomFor table (columns_gained columns visits) → RoomFor (table_of keys scores left) (columns_gained columns now)
-      adding_room h =
-          let whole : length (table_of keys scores left ++ (columns_gained columns now ++ columns_gained columns rest)) ≤ max_pairs = rw all h in
-          omega (
-            arith,
-            whole,
-            length-append (table_of keys scores left) (columns_gained columns now ++ columns_gained columns rest),
-            length-append (columns_gained columns now) (columns_gained columns rest),
-            length-append (table_of keys scores left) (columns_gained columns now),
-          )
-
-      pub adding_next : (next_keys next_scores : List ℕ) (next : ℕ) → Room next_keys next_scores next → table_of next_keys next_scores next ≡ table_of keys scores left ++ columns_gained columns now
-          → Adding columns table visits next_keys next_scores next rest
-      adding_next next_keys next_scores next room is =
-          record {
-            room = room;
-            so_far =
-                ap (λ (t : List Scored). t ++ columns_gained columns rest) is ∙ append_assoc (table_of keys scores left) (columns_gained columns now) (columns_gained columns rest) ∙ all;
-          }
+    pub adding_next : (next : List Scored) → next ≡ now ++ columns_gained columns some → Adding columns table visits next rest
+    adding_next next has =
+        ap (λ (t : List Scored). t ++ columns_gained columns rest) has ∙ append_assoc now (columns_gained columns some) (columns_gained columns rest) ∙ all

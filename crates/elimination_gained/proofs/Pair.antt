@@ -1,11 +1,11 @@
 -- One pair of terms: its divisor gets an entry at its first occurrence, and none at a later one.
 -- Assumes nothing.
-use Prim.Native.Nat.{ℕ, ◌+◌, ◌<◌}
+use Prim.Native.Nat.{ℕ, ◌<◌}
 use mathlib.Core.Path.{◌≡◌, sym, ap, ap₂, ◌∙◌}
 use mathlib.Core.Bool.{true, false}
 use mathlib.Core.List.{List, [], ◌∷◌, ◌++◌, append-nil}
 use native.Mathlib.Omega.{arith}
-use lib.ListN.{length, get_or, set, length-append, length-set}
+use lib.ListN.{length, get_or, length-append}
 use Rattle.limits.specs.Limits.{max_rows, max_pairs}
 use Rattle.term.specs.declared.Term.{Term}
 use Rattle.elimination_rules.specs.declared.Divisor.{Divisor}
@@ -16,8 +16,7 @@ use Rattle.elimination_rules.specs.Rank.{divisor_key, key_divisor}
 use Rattle.elimination_rules.proofs.Rank.{key-divisor}
 use Rattle.elimination_masks.specs.Masks.{mask_score, none_among, none_among_from, earlier_mask}
 use Rattle.elimination_masks.specs.Columns.{columns_score, columns_first}
-use Rattle.elimination_kept.specs.Table.{entry_of, table_of, Room, Fits}
-use Rattle.elimination_kept.proofs.TableLaws.{table-length, table_more}
+use Rattle.elimination_kept.specs.Table.{entry_of, Fits}
 use Rattle.elimination_gained.specs.Gained.{Earlier, columns_gained, RoomFor}
 use Rattle.elimination_gained.proofs.Adding.{one-first, one_later}
 use Rattle.elimination_gained.proofs.Pairs.{none_earlier}
@@ -40,7 +39,7 @@ module _ (columns : List (List ℕ)) (i : ℕ) (t u : Term) (d : Divisor) (is : 
       none_earlier d x y i c masks asked
       ∙ ap (λ (e : Divisor). none_among_from e (get_or columns e.a []) (get_or columns e.b []) (earlier_mask i c) 0 max_rows) is
 
-  module _ (keys scores : List ℕ) (kept : ℕ) (room : Room keys scores kept) where
+  module _ (kept : List Scored) where
     module _ (h : none_among d x y (λ j. get_or masks j 0) ≡ true) where
       abbrev new : Scored
       new = record { divisor = divisor_of visit.pair; score = columns_score columns (divisor_of visit.pair) }
@@ -49,29 +48,19 @@ module _ (columns : List (List ℕ)) (i : ℕ) (t u : Term) (d : Divisor) (is : 
       one = one-first (columns_first columns) (columns_score columns) visit (sym first-is ∙ h)
 
       -- there is room for its entry
-      pub pair-room : RoomFor (table_of keys scores kept) (columns_gained columns (visit ∷ [])) → kept < max_pairs
-      pair-room l =
-          let more : length (table_of keys scores kept ++ (new ∷ [])) ≡ length (table_of keys scores kept) + 1 = length-append (table_of keys scores kept) (new ∷ []) in
-          omega (arith, more, table-length keys scores kept room, rw one at l)
+      pub pair-room : RoomFor kept (columns_gained columns (visit ∷ [])) → length kept < max_pairs
+      pair-room l = omega (arith, length-append kept (new ∷ []), rw one at l)
 
-      pub pair-added : Fits d → (key score : ℕ) → key ≡ divisor_key d → score ≡ mask_score d x y → kept < max_pairs
-          → (table_of (set keys kept key) (set scores kept score) (kept + 1) ≡ table_of keys scores kept ++ columns_gained columns (visit ∷ []))
-          × Room (set keys kept key) (set scores kept score) (kept + 1)
+      pub pair-added : Fits d → (key score : ℕ) → key ≡ divisor_key d → score ≡ mask_score d x y → kept ++ (entry_of key score ∷ []) ≡ kept ++ columns_gained columns (visit ∷ [])
       unfolding columns_score
-      pair-added fits key score ek es l =
+      pair-added fits key score ek es =
           let entry : entry_of key score ≡ new =
           ap₂ (λ (e : Divisor) (n : ℕ). record { divisor = e; score = n })
           (ap key_divisor ek ∙ key-divisor d (omega (arith, fits.1)) (omega (arith, fits.2)) (omega (arith, fits.3)) ∙ is)
-          (es ∙ ap (columns_score columns) is) in (
-            table_more keys scores kept room key score l ∙ ap (λ (s : Scored). table_of keys scores kept ++ (s ∷ [])) entry ∙ sym (ap (λ (t : List Scored). table_of keys scores kept ++ t) one),
-            record {
-              keys-room = length-set keys kept key ∙ room.keys-room;
-              scores-room = length-set scores kept score ∙ room.scores-room;
-              within = omega arith;
-            },
-          )
+          (es ∙ ap (columns_score columns) is) in
+          ap (λ (s : Scored). kept ++ (s ∷ [])) entry ∙ sym (ap (λ (t : List Scored). kept ++ t) one)
 
-    pub pair-not-added : none_among d x y (λ j. get_or masks j 0) ≡ false → table_of keys scores kept ≡ table_of keys scores kept ++ columns_gained columns (visit ∷ [])
+    pub pair-not-added : none_among d x y (λ j. get_or masks j 0) ≡ false → kept ≡ kept ++ columns_gained columns (visit ∷ [])
     pair-not-added h =
-        sym (append-nil (table_of keys scores kept))
-        ∙ sym (ap (λ (t : List Scored). table_of keys scores kept ++ t) (one_later (columns_first columns) (columns_score columns) visit (sym first-is ∙ h)))
+        sym (append-nil kept)
+        ∙ sym (ap (λ (t : List Scored). kept ++ t) (one_later (columns_first columns) (columns_score columns) visit (sym first-is ∙ h)))

@@ -24,19 +24,11 @@ use Rattle.kept_rules.specs.Kept.{pairs_before, new_pairs, new_pairs_from}
 use Rattle.elimination_masks.specs.Masks.{occurrences_in, none_among_from, earlier_mask}
 use Rattle.elimination_masks.proofs.ColumnLaws.{earlier_before, earlier_in, earlier_behind}
 use Rattle.elimination_rows.specs.State.{no_term}
-use Rattle.elimination_rows.proofs.Filled.{front_at, front_part, front_within}
 use Rattle.elimination_rows.proofs.Members.{member_at, ascending_at, left_next, left_none}
 use Rattle.elimination_kept.specs.Table.{Fits}
 use Rattle.elimination_gained.specs.Gained.{Earlier, TermFits, OrderedTo}
 
 -- ---- what comes before a co-divisor of a row
-
--- nothing comes before the first row
-pub earlier_first : (masks : List ℕ) → length masks ≡ max_rows → ((i : ℕ) → i < max_rows → get_or masks i 0 ≡ 0) → Earlier 0 0 masks
-earlier_first masks l none = record {
-  count = l;
-  each = λ i h. none i h ∙ by_order i 0 (λ e. absurd (omega arith)) (λ e. sym (earlier_in 0 0 i e)) (λ e. sym (earlier_behind 0 0 i e));
-}
 
 module _ (row : ℕ) (masks : List ℕ) (so : Earlier row 0 masks) (inside : row < max_rows) where
   -- all of a row comes before the next one
@@ -51,16 +43,6 @@ module _ (row : ℕ) (masks : List ℕ) (so : Earlier row 0 masks) (inside : row
     where
       not-before : (i : ℕ) → row < i → earlier_mask (row + 1) 0 i ≡ 0
       not-before i e = by_order i (row + 1) (λ l. absurd (omega arith)) (λ s. earlier_in (row + 1) 0 i s) (λ l. earlier_behind (row + 1) 0 i l)
-
-  -- and what is below a co-divisor in it
-  pub earlier_below : (c : ℕ) → Earlier row c (set masks row (2 ^ c - 1))
-  earlier_below c = record {
-    count = length-set masks row (2 ^ c - 1) ∙ so.count;
-    each = λ i h. by_order i row
-        (λ e. get_or-set_other masks row i (2 ^ c - 1) 0 (omega arith) ∙ so.each i h ∙ earlier_before row 0 i e ∙ sym (earlier_before row c i e))
-        (λ e. ap (λ (j : ℕ). get_or (set masks row (2 ^ c - 1)) j 0) e ∙ get_or-set_same masks row (2 ^ c - 1) 0 (omega (arith, so.count)) ∙ sym (earlier_in row c i e))
-        (λ e. get_or-set_other masks row i (2 ^ c - 1) 0 (omega arith) ∙ so.each i h ∙ earlier_behind row 0 i e ∙ sym (earlier_behind row c i e));
-  }
 
 -- ---- whether the pair is the first occurrence
 
@@ -107,22 +89,13 @@ module _ (i j : ℕ) (r : Row) (u : Term) where
     pub pairs_end : (h : ℕ) → j ≤ h → pairs_left h ≡ []
     pairs_end h l = ap (λ (ts : Row). all_in_row i (pairs_before ts u)) (left_none (take j r) h (omega (arith, length-take-le j r all))) ∙ ap (all_in_row i) (pairs_none u)
 
--- all of them, in an array that begins with the row
-pub pairs_begin : (i j : ℕ) (terms : List Term) (r : Row) → take (length r) terms ≡ r → (d : Term) → j < length r
-    → all_in_row i (pairs_before (take j terms) (get_or terms j d)) ≡ all_in_row i (pairs_before (take j r) (get_or r j d))
-pairs_begin i j terms r begins d h =
-    ap₂ (λ (ts : Row) (u : Term). all_in_row i (pairs_before ts u)) (front_part terms (length r) r refl begins j (omega arith)) (front_at terms (length r) r refl begins j d h)
-
--- a row in order, in such an array
-pub ordered-to : (j : ℕ) (terms : List Term) (r : Row) → take (length r) terms ≡ r → WellFormed positions term_symbols r → j < length r → OrderedTo j terms
-ordered-to j terms r begins formed l = record {
-  inside = omega (arith, front_within terms (length r) r refl begins);
-  precede = λ h k. rw (at h (omega arith), at j l) (ascending_at r formed.ascending h j no_term k l);
-  fit = λ h k. let there = member_at r h no_term (omega arith) in rw (at h (omega arith)) (formed.symbols _ there, formed.exponents _ there);
+-- a row in order
+pub ordered-to : (j : ℕ) (r : Row) → WellFormed positions term_symbols r → j < length r → OrderedTo j r
+ordered-to j r formed l = record {
+  inside = l;
+  precede = λ h k. ascending_at r formed.ascending h j no_term k l;
+  fit = λ h k. let there = member_at r h no_term (omega arith) in (formed.symbols _ there, formed.exponents _ there);
 }
-  where
-    at : (k : ℕ) → k < length r → get_or terms k no_term ≡ get_or r k no_term
-    at k h = front_at terms (length r) r refl begins k no_term h
 
 module _ (symbol : ℕ) (front : Row) (u : Term) (rest : Row) where
   new_more : symbol ≤ u.symbol → new_pairs symbol front (u ∷ rest) ≡ pairs_before front u ++ new_pairs symbol (front ++ (u ∷ [])) rest

@@ -2,138 +2,91 @@
 // `elimination_rows` and `elimination_masks`.
 #![tactic(auto)]
 
+mod before; // before.rt: what comes before a row
+
 ghost use Rattle.std.specs.Prelude.{◌≡◌, [], ◌∷◌, ◌++◌, ◌<◌, ◌≤◌, length, get_or, take};
-ghost use Rattle.limits.specs.Limits.{max_rows, positions, max_terms, term_symbols};
+ghost use Rattle.limits.specs.Limits.{positions, max_terms, term_symbols};
 ghost use Rattle.elimination_rules.specs.Rows.{Precedes, WellFormed};
 ghost use Rattle.elimination_rules.specs.Visit.{all_in_row};
 ghost use Rattle.kept_rules.specs.Kept.{pairs_before, new_pairs, new_pairs_from};
 ghost use Rattle.elimination_rows.specs.State.{no_term, row_terms, rows_terms, Ready};
-ghost use Rattle.elimination_kept.specs.Table.{table_of, Room};
-ghost use Rattle.elimination_gained.specs.Gained.{Earlier, TermFits, OrderedTo, columns_gained, RoomFor};
+ghost use Rattle.elimination_gained.specs.Gained.{TermFits, OrderedTo, columns_gained, RoomFor};
 
+use crate::before::Before;
+use elimination_kept::KeptScores;
 use elimination_masks::columns::{Column, none_among, score};
 use elimination_order::{co_divisor, divisor_of, key};
 use elimination_rows::row::Row;
 use elimination_rows::rows::Rows;
-use limits::{MAX_PAIRS, MAX_ROWS, MAX_TERMS, TERM_SYMBOLS};
+use limits::{MAX_ROWS, MAX_TERMS, TERM_SYMBOLS};
 use term::Term;
 
-// What comes before co-divisor c of row i: all of the rows before it, and what is below c in it.
-fn earlier(before: [u16; MAX_ROWS], i: usize, c: u8) -> [u16; MAX_ROWS]
-    requires { Earlier i 0 before × (i < max_rows) × (c < positions) }
-    ensures { Earlier i c result }
-{
-    let mut out = before;
-    out[i] = (1u16 << (c as u16)) - 1;
-    out
-}
-
-// The divisor of two terms of row i, if they are its first occurrence.
+// The divisor of two terms of a row, if they are its first occurrence.
 fn add_pair(
-    keys: &mut [u32; MAX_PAIRS],
-    scores: &mut [u8; MAX_PAIRS],
-    kept: usize,
+    kept: &mut KeptScores,
     columns: &[Column; TERM_SYMBOLS],
-    i: usize,
-    before: [u16; MAX_ROWS],
+    before: Before,
     t: Term,
     u: Term,
-) -> usize
-    requires { Room keys.old scores.old kept × (i < max_rows) × Earlier i 0 before × Precedes t u × TermFits t × TermFits u × RoomFor (table_of keys.old scores.old kept) (columns_gained columns.now (record { row = i; pair = record { first = t; second = u } } ∷ [])) }
-    ensures result_after { table_of keys.new scores.new result ≡ table_of keys.old scores.old kept ++ columns_gained columns.now (record { row = i; pair = record { first = t; second = u } } ∷ []) }
-    ensures room { Room keys.new scores.new result }
+)
+    requires { Precedes t u × TermFits t × TermFits u × RoomFor kept.old (columns_gained columns.now (record { row = before.row; pair = record { first = t; second = u } } ∷ [])) }
+    ensures { kept.new ≡ kept.old ++ columns_gained columns.now (record { row = before.row; pair = record { first = t; second = u } } ∷ []) }
 {
     let d = divisor_of(t, u);
-    let asked = earlier(before, i, co_divisor(t, u));
-    let a = d.a as usize;
-    let b = d.b as usize;
-    let x = columns[a];
-    let y = columns[b];
+    let asked = before.below(co_divisor(t, u));
+    let x = columns[d.a as usize];
+    let y = columns[d.b as usize];
     if none_among(x, y, asked, d) {
-        keys[kept] = key(d);
-        scores[kept] = score(x, y, d);
-        return kept + 1;
+        kept.push(key(d), score(x, y, d));
     }
-    kept
 }
 
-// Those of the term at j of row i, among its terms, with each term before it.
+// Those of the term at j of a row, among its terms, with each term before it.
 fn add_pairs_before(
-    keys: &mut [u32; MAX_PAIRS],
-    scores: &mut [u8; MAX_PAIRS],
-    kept: usize,
+    kept: &mut KeptScores,
     columns: &[Column; TERM_SYMBOLS],
-    i: usize,
-    before: [u16; MAX_ROWS],
-    terms: [Term; MAX_TERMS],
+    before: Before,
+    terms: &[Term],
     j: usize,
-) -> usize
-    requires { Room keys.old scores.old kept × (i < max_rows) × Earlier i 0 before × (j < max_terms) × OrderedTo j terms × RoomFor (table_of keys.old scores.old kept) (columns_gained columns.now (all_in_row i (pairs_before (take j terms) (get_or terms j no_term)))) }
-    ensures result_after { table_of keys.new scores.new result ≡ table_of keys.old scores.old kept ++ columns_gained columns.now (all_in_row i (pairs_before (take j terms) (get_or terms j no_term))) }
-    ensures room { Room keys.new scores.new result }
+)
+    requires { OrderedTo j terms.now × RoomFor kept.old (columns_gained columns.now (all_in_row before.row (pairs_before (take j terms.now) (get_or terms.now j no_term)))) }
+    ensures { kept.new ≡ kept.old ++ columns_gained columns.now (all_in_row before.row (pairs_before (take j terms.now) (get_or terms.now j no_term))) }
 {
     let u = terms[j];
-    let mut entries = kept;
-    let mut h = 0;
-    while h < j {
-        entries = add_pair(keys, scores, entries, columns, i, before, terms[h], u);
-        h += 1;
+    for h in 0..j {
+        add_pair(kept, columns, before, terms[h], u);
     }
-    entries
 }
 
-// Those of the terms of row i that have the symbol or a later one.
+// Those of the terms of a row that have the symbol or a later one.
 fn gain_row(
-    keys: &mut [u32; MAX_PAIRS],
-    scores: &mut [u8; MAX_PAIRS],
-    kept: usize,
+    kept: &mut KeptScores,
     columns: &[Column; TERM_SYMBOLS],
-    i: usize,
-    before: [u16; MAX_ROWS],
-    row: Row,
+    before: Before,
+    row: &[Term],
     symbol: u16,
-) -> usize
-    requires { Room keys.old scores.old kept × (i < max_rows) × Earlier i 0 before × WellFormed positions term_symbols (row_terms row) × (length (row_terms row) ≤ max_terms) × RoomFor (table_of keys.old scores.old kept) (columns_gained columns.now (all_in_row i (new_pairs symbol [] (row_terms row)))) }
-    ensures result_after { table_of keys.new scores.new result ≡ table_of keys.old scores.old kept ++ columns_gained columns.now (all_in_row i (new_pairs symbol [] (row_terms row))) }
-    ensures room { Room keys.new scores.new result }
+)
+    requires { WellFormed positions term_symbols row.now × RoomFor kept.old (columns_gained columns.now (all_in_row before.row (new_pairs symbol [] row.now))) }
+    ensures { kept.new ≡ kept.old ++ columns_gained columns.now (all_in_row before.row (new_pairs symbol [] row.now)) }
 {
-    let count = row.count();
-    let terms = row.terms();
-    let mut entries = kept;
-    let mut j = 0;
-    while j < count {
-        let t = terms[j];
+    for j in 0..row.len() {
+        let t = row[j];
         if symbol <= t.symbol() {
-            entries = add_pairs_before(keys, scores, entries, columns, i, before, terms, j);
+            add_pairs_before(kept, columns, before, row, j);
         }
-        j += 1;
     }
-    entries
 }
 
 // The entries of all pairs whose second term has the symbol or a later one: from symbol 0 on those of all pairs, from the newest symbol on
-// those that a step made. Answers how many entries there are then.
-pub fn gain(
-    keys: &mut [u32; MAX_PAIRS],
-    scores: &mut [u8; MAX_PAIRS],
-    kept: usize,
-    columns: &[Column; TERM_SYMBOLS],
-    rows: Rows,
-    symbol: u16,
-) -> usize
-    requires { Room keys.old scores.old kept × Ready term_symbols (rows_terms rows) × RoomFor (table_of keys.old scores.old kept) (columns_gained columns.now (new_pairs_from symbol 0 (rows_terms rows))) }
-    ensures result_after { table_of keys.new scores.new result ≡ table_of keys.old scores.old kept ++ columns_gained columns.now (new_pairs_from symbol 0 (rows_terms rows)) }
-    ensures room { Room keys.new scores.new result }
+// those that a step made.
+pub fn gain(kept: &mut KeptScores, columns: &[Column; TERM_SYMBOLS], rows: Rows, symbol: u16)
+    requires { Ready term_symbols (rows_terms rows) × RoomFor kept.old (columns_gained columns.now (new_pairs_from symbol 0 (rows_terms rows))) }
+    ensures { kept.new ≡ kept.old ++ columns_gained columns.now (new_pairs_from symbol 0 (rows_terms rows)) }
 {
-    let m = rows.m();
-    let all = rows.all();
-    let mut before = [0u16; MAX_ROWS];
-    let mut entries = kept;
-    let mut i = 0;
-    while i < m {
-        entries = gain_row(keys, scores, entries, columns, i, before, all[i], symbol);
-        before[i] = 65535;
-        i += 1;
+    let mut masks = [0u16; MAX_ROWS];
+    for (i, row) in rows.as_slice().iter().enumerate() {
+        let before = Before { row: i, masks };
+        gain_row(kept, columns, before, row.as_slice(), symbol);
+        masks[i] = u16::MAX;
     }
-    entries
 }

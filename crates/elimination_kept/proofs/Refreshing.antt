@@ -18,7 +18,7 @@ use Rattle.kept_rules.specs.Kept.{refreshed_entry, refreshed}
 use Rattle.elimination_masks.specs.Masks.{occurrences_in, masks_differ_from}
 use Rattle.elimination_masks.specs.Columns.{columns_differ}
 use Rattle.elimination_kept.specs.Table.{entry_of, entries_of, table_of, Room, Fits, AllFit, shares_symbol, SameBut}
-use Rattle.elimination_kept.proofs.TableLaws.{table_from, table_next, table-end, table_more, table_member}
+use Rattle.elimination_kept.proofs.TableLaws.{table_from, table_next, table-end, table_more, room_more, table_member}
 
 -- ---- an entry that shares no symbol with the step is as it was
 
@@ -148,11 +148,7 @@ module _ (changed : Divisor → Bool) (counts : Divisor → ℕ) where
         refreshing_stays z =
             let room : left < max_pairs = omega (arith, so.behind, start.within) in
             record {
-              room = record {
-                keys-room = length-set now_keys left key ∙ so.room.keys-room;
-                scores-room = length-set now_scores left score ∙ so.room.scores-room;
-                within = omega (arith, room);
-              };
+              room = room_more now_keys now_scores left so.room key score room;
               behind = omega (arith, so.behind);
               within = omega arith;
               keys_left = same_keys;

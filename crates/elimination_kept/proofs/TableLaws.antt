@@ -4,13 +4,13 @@ use Prim.Native.Nat.{ℕ, zero, suc, ◌+◌, ◌≤◌, ◌<◌}
 use mathlib.Core.Path.{◌≡◌, refl, sym, ap, ◌∙◌}
 use mathlib.Core.List.{List, [], ◌∷◌, ◌++◌, Memᴰ}
 use native.Mathlib.Omega.{arith}
-use lib.ListN.{length, get_or, take, drop, set, length-replicate}
+use lib.ListN.{length, get_or, take, drop, set, length-set}
 use lib.Seq.{length-take-le, get_or-take}
 use Rattle.limits.specs.Limits.{max_pairs}
 use Rattle.elimination_rules.specs.Elimination.{Scored}
-use Rattle.elimination_rows.proofs.Filled.{filled_more}
+use Rattle.std.proofs.lemmas.List.{take_more_set}
 use Rattle.elimination_rows.proofs.Members.{left_next, left_none}
-use Rattle.elimination_kept.specs.Table.{entry_of, entries_of, table_of, blank_entries, Room}
+use Rattle.elimination_kept.specs.Table.{entry_of, entries_of, table_of, Room}
 
 entries-length : (keys scores : List ℕ) → length keys ≡ length scores → length (entries_of keys scores) ≡ length keys
 unfolding entries_of
@@ -37,10 +37,6 @@ entries_none : (scores : List ℕ) → entries_of [] scores ≡ []
 unfolding entries_of
 entries_none scores = refl
 
-pub blank-length : length blank_entries ≡ max_pairs
-unfolding blank_entries
-blank-length = length-replicate max_pairs zero
-
 -- the entries from one on
 abbrev pub table_from : List ℕ → List ℕ → ℕ → ℕ → List Scored
 table_from keys scores i kept = entries_of (drop i (take kept keys)) (drop i (take kept scores))
@@ -66,9 +62,18 @@ module _ (keys scores : List ℕ) (kept : ℕ) (room : Room keys scores kept) wh
   -- one entry more
   pub table_more : (key score : ℕ) → kept < max_pairs → table_of (set keys kept key) (set scores kept score) (kept + 1) ≡ table_of keys scores kept ++ (entry_of key score ∷ [])
   table_more key score h =
-      rw (filled_more keys kept max_pairs room.keys-room key h, filled_more scores kept max_pairs room.scores-room score h)
+      rw (take_more_set keys kept key (omega (arith, room.keys-room, h)), take_more_set scores kept score (omega (arith, room.scores-room, h)))
       (entries-append (take kept keys) (key ∷ []) (take kept scores) (score ∷ []) (keys_used ∙ sym scores_used)
       ∙ ap (λ (t : List Scored). table_of keys scores kept ++ t) (entries-one key score))
+
+  -- and room for it
+  pub room_more : (key score : ℕ) → kept < max_pairs → Room (set keys kept key) (set scores kept score) (kept + 1)
+  room_more key score h =
+      record {
+        keys-room = length-set keys kept key ∙ room.keys-room;
+        scores-room = length-set scores kept score ∙ room.scores-room;
+        within = omega arith;
+      }
 
 entry_in : (keys scores : List ℕ) (i : ℕ) → i < length keys → length keys ≡ length scores → Memᴰ (entry_of (get_or keys i 0) (get_or scores i 0)) (entries_of keys scores)
 unfolding entries_of

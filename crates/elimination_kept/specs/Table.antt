@@ -1,6 +1,7 @@
--- Request A3: the kept scores as the code holds them, keys in one array and scores in another, the first ones of each in use.
+-- Request A3: the kept scores as the code holds them, keys in one array and scores in another, the first ones of each in use. KeptScores
+-- has `table_of` as its view and `Room` as its invariant.
 -- Assumes nothing.
-use Rattle.std.specs.Prelude.{ℕ, ◌≤◌, ◌<◌, ◌≡◌, Bool, ◌||◌, eqb, length, get_or, take, replicate}
+use Rattle.std.specs.Prelude.{ℕ, ◌≤◌, ◌<◌, ◌≡◌, Bool, ◌||◌, eqb, length, get_or, take}
 use mathlib.Core.List.{List, [], ◌∷◌, Memᴰ}
 use Rattle.limits.specs.Limits.{positions, max_pairs, term_symbols}
 use Rattle.elimination_rules.specs.declared.Divisor.{Divisor}
@@ -19,10 +20,6 @@ entries_of (key ∷ keys) (score ∷ scores) = entry_of key score ∷ entries_of
 -- the entries in use
 abbrev pub table_of : List ℕ → List ℕ → ℕ → List Scored
 table_of keys scores kept = entries_of (take kept keys) (take kept scores)
-
--- arrays in which nothing is in use
-unfoldable pub blank_entries : List ℕ
-blank_entries = replicate max_pairs 0
 
 -- there is room for as many entries as rows can have pairs
 pub record Room (keys scores : List ℕ) (kept : ℕ) : Type 0 where

@@ -3,10 +3,11 @@ ghost use Rattle.std.specs.Prelude.{◌≡◌, true, false};
 ghost use Rattle.elimination_rules.specs.Elimination.{better, no_pairs};
 ghost use Rattle.elimination_rules.specs.Rank.{key_divisor, lower_rank};
 ghost use Rattle.kept_rules.specs.Kept.{best_entry};
-ghost use Rattle.elimination_kept.specs.Table.{entry_of, table_of, Room, Fits, AllFit, scored_of, Ranked};
+ghost use Rattle.elimination_kept.specs.Table.{entry_of, Fits, AllFit, scored_of, Ranked};
 
+use crate::KeptScores;
 use elimination_order::rank;
-use limits::{MAX_PAIRS, MAX_SYMBOLS};
+use limits::MAX_SYMBOLS;
 
 // A divisor's key, its score, and its rank in the order among equal scores.
 #[derive(Clone, Copy)]
@@ -16,7 +17,8 @@ pub struct Best {
     rank: u64,
 }
 
-// No pairs at all count as a highest score below 2.
+// No pairs at all count as a highest score below 2: the rules have no_pairs for that, so there is no case of none to tell apart.
+#[tactic(auto, unfolding(elimination_rules::specs::Elimination::no_pairs, elimination_rules::specs::Rank::key_divisor))]
 fn no_pairs(depths: &[u16; MAX_SYMBOLS]) -> Best
     ensures { (scored_of result ≡ no_pairs) × Ranked depths.now result }
 {
@@ -37,29 +39,22 @@ fn better_of(depths: &[u16; MAX_SYMBOLS], best: Best, key: u32, score: u8) -> Be
         return best;
     }
     let rank = rank(depths, key);
-    if score == best.score {
-        if best.rank <= rank {
-            return best;
-        }
+    if score == best.score && best.rank <= rank {
+        return best;
     }
     Best { key, score, rank }
 }
 
-// The best of the entries in use.
-pub fn pick(
-    keys: &[u32; MAX_PAIRS],
-    scores: &[u8; MAX_PAIRS],
-    kept: usize,
-    depths: &[u16; MAX_SYMBOLS],
-) -> Best
-    requires { Room keys.now scores.now kept × AllFit (table_of keys.now scores.now kept) }
-    ensures { scored_of result ≡ best_entry (lower_rank depths.now) no_pairs (table_of keys.now scores.now kept) }
-{
-    let mut best = no_pairs(depths);
-    let mut i = 0;
-    while i < kept {
-        best = better_of(depths, best, keys[i], scores[i]);
-        i += 1;
+impl KeptScores {
+    // The best of the entries.
+    pub fn pick(&self, depths: &[u16; MAX_SYMBOLS]) -> Best
+        requires { AllFit self.now }
+        ensures { scored_of result ≡ best_entry (lower_rank depths.now) no_pairs self.now }
+    {
+        let mut best = no_pairs(depths);
+        for i in 0..self.count {
+            best = better_of(depths, best, self.keys[i], self.scores[i]);
+        }
+        best
     }
-    best
 }

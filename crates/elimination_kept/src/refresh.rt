@@ -1,29 +1,22 @@
 // Request A3: the entries after a step. Rests on `elimination_order` and `elimination_masks`.
+// The columns before and after a step stay two parameters: in a struct of two references each clause would have to name its entry.
 ghost use Rattle.std.specs.Prelude.{◌≡◌};
 ghost use Rattle.elimination_rules.specs.Rank.{key_divisor};
 ghost use Rattle.kept_rules.specs.Kept.{refreshed_entry, refreshed};
 ghost use Rattle.elimination_masks.specs.Columns.{columns_score, columns_differ};
-ghost use Rattle.elimination_kept.specs.Table.{entry_of, table_of, Room, Fits, AllFit, shares_symbol, SameBut};
+ghost use Rattle.elimination_kept.specs.Table.{entry_of, Fits, AllFit, shares_symbol, SameBut};
 
+use crate::KeptScores;
 use elimination_masks::columns::{Column, differ, score};
 use elimination_order::divisor_of_key;
 use elimination_rules::Divisor;
-use limits::{MAX_PAIRS, TERM_SYMBOLS};
+use limits::TERM_SYMBOLS;
 
 // Whether a divisor has one of two symbols.
 fn shares(d: Divisor, a: u16, b: u16) -> bool
     ensures { result ≡ shares_symbol a b d }
 {
-    if d.a == a {
-        return true;
-    }
-    if d.a == b {
-        return true;
-    }
-    if d.b == a {
-        return true;
-    }
-    d.b == b
+    d.a == a || d.a == b || d.b == a || d.b == b
 }
 
 // Counted anew only where the occurrences are others after the step.
@@ -65,31 +58,29 @@ fn refreshed_score(
     before
 }
 
-// Goes over the entries once: each is kept with its score after the step, unless it has no occurrence left. Answers how many are kept.
-pub fn refresh(
-    keys: &mut [u32; MAX_PAIRS],
-    scores: &mut [u8; MAX_PAIRS],
-    kept: usize,
-    columns: &[Column; TERM_SYMBOLS],
-    after: &[Column; TERM_SYMBOLS],
-    a: u16,
-    b: u16,
-) -> usize
-    requires { Room keys.old scores.old kept × AllFit (table_of keys.old scores.old kept) × SameBut a b columns.now after.now }
-    ensures result_after { table_of keys.new scores.new result ≡ refreshed (columns_differ columns.now after.now) (columns_score after.now) (table_of keys.old scores.old kept) }
-    ensures room { Room keys.new scores.new result }
-{
-    let mut left = 0;
-    let mut i = 0;
-    while i < kept {
-        let key = keys[i];
-        let score = refreshed_score(key, scores[i], columns, after, a, b);
-        keys[left] = key;
-        scores[left] = score;
-        if score != 0 {
-            left += 1;
+impl KeptScores {
+    // Goes over the entries once: each is kept with its score after the step, unless it has no occurrence left.
+    pub fn refresh(
+        &mut self,
+        columns: &[Column; TERM_SYMBOLS],
+        after: &[Column; TERM_SYMBOLS],
+        a: u16,
+        b: u16,
+    )
+        requires { AllFit self.old × SameBut a b columns.now after.now }
+        ensures { self.new ≡ refreshed (columns_differ columns.now after.now) (columns_score after.now) self.old }
+    {
+        let kept = self.count;
+        let mut left = 0;
+        for i in 0..kept {
+            let key = self.keys[i];
+            let score = refreshed_score(key, self.scores[i], columns, after, a, b);
+            self.keys[left] = key;
+            self.scores[left] = score;
+            if score != 0 {
+                left += 1;
+            }
         }
-        i += 1;
+        self.count = left;
     }
-    left
 }

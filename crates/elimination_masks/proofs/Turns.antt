@@ -3,7 +3,7 @@
 use mathlib.Core.Path.{◌≡◌, refl, sym, ap, ap₂, ◌∙◌, subst}
 use mathlib.Core.Bool.{Bool, true, false, not, ◌&&◌, ◌||◌, and-true, or-false, and_assoc}
 use mathlib.Core.List.{List}
-use Prim.Native.Nat.{ℕ, zero, suc, ◌+◌, ◌-◌, ◌*◌, ◌/◌, ◌%◌, ◌^◌, ◌≤◌, ◌<◌}
+use Prim.Native.Nat.{ℕ, zero, suc, ◌+◌, ◌-◌, ◌*◌, ◌%◌, ◌^◌, ◌≤◌, ◌<◌}
 use native.Mathlib.Numerals.{add-one}
 use native.Mathlib.Omega.{arith}
 use lib.Dec.{leb, eqb}
@@ -18,9 +18,9 @@ use Rattle.elimination_rules.specs.declared.Divisor.{Divisor}
 use Rattle.elimination_rules.proofs.Tests.{by_bool}
 use Rattle.bits.specs.Bits.{bit_at}
 use Rattle.bits.proofs.BitLaws.{zero_bit}
-use Rattle.elimination_masks.specs.Masks.{plus_in, minus_in, occurrence_mask, occurrences_in, apart_mask, taken_in, mask_score_from, masks_differ_from, none_among_from}
+use Rattle.elimination_masks.specs.Masks.{plus_in, minus_in, occurrences_in, apart_mask, taken_in, mask_score_from, masks_differ_from, none_among_from}
 
--- ---- the occurrences in one row
+-- ---- what a branch gives
 
 pub yes_branch : {A : Type 0} (b : Bool) (x y : A) → b ≡ true → x ≡ elim b [ true ↦ x | false ↦ y ]
 yes_branch b x y e = rw e
@@ -28,26 +28,11 @@ yes_branch b x y e = rw e
 pub no_branch : {A : Type 0} (b : Bool) (x y : A) → b ≡ false → y ≡ elim b [ true ↦ x | false ↦ y ]
 no_branch b x y e = rw e
 
--- from the masks of b that go with the plus and the minus terms of a
-pub occurrences_with : (d : Divisor) (x_plus x_minus y_plus y_minus with_plus with_minus : ℕ)
-    → with_plus ≡ elim d.minus [ true ↦ y_minus | false ↦ y_plus ] → with_minus ≡ elim d.minus [ true ↦ y_plus | false ↦ y_minus ]
-    → bit_or (bit_and (x_plus / 2 ^ d.ea) (with_plus / 2 ^ d.eb)) (bit_and (x_minus / 2 ^ d.ea) (with_minus / 2 ^ d.eb)) ≡ occurrence_mask d x_plus x_minus y_plus y_minus
-unfolding occurrence_mask
-occurrences_with d x_plus x_minus y_plus y_minus with_plus with_minus e f =
-    ap₂ (λ p m. bit_or (bit_and (x_plus / 2 ^ d.ea) (p / 2 ^ d.eb)) (bit_and (x_minus / 2 ^ d.ea) (m / 2 ^ d.eb))) e f
-
 -- ---- one co-divisor more, where a and b are one symbol
 
 -- there is an occurrence, and that of a distance before it is not taken
 abbrev pub takes_at : ℕ → ℕ → ℕ → ℕ → Bool
 takes_at occurrences distance taken c = bit_at occurrences c && not (leb distance c && bit_at taken (c - distance))
-
--- as the code tests it
-pub takes_unless : (occurs late taken result : Bool) → occurs ≡ true → late ≡ true → result ≡ taken → not result ≡ occurs && not (late && taken)
-takes_unless occurs late taken result e f g = rw (e, f, g)
-
-pub takes_early : (occurs late taken : Bool) → occurs ≡ true → late ≡ false → true ≡ occurs && not (late && taken)
-takes_early occurs late taken e f = rw (e, f)
 
 module _ (occurrences distance : ℕ) where
   pub apart-start : apart_mask occurrences distance 0 ≡ 0

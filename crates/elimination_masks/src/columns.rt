@@ -1,4 +1,5 @@
 // Document 01, "Elimination": occurrences in all rows, from the columns of a and of b. Rests on `masks`.
+// Exponents are bounded in clauses and not in the type: `divisor_of_key` gives a divisor for every key, also of exponents up to 31.
 ghost use Rattle.std.specs.Prelude.{◌≡◌, ◌<◌, get_or};
 ghost use Rattle.limits.specs.Limits.{max_rows, positions};
 ghost use Rattle.elimination_masks.specs.Masks.{occurrences_in, mask_score, masks_differ, none_among, TakenAt, Without, Made};
@@ -24,28 +25,24 @@ fn score_apart(x: Column, y: Column, d: Divisor) -> u8
     ensures { result ≡ mask_score d x y }
 {
     let mut count: u16 = 0;
-    let mut i = 0;
-    while i < MAX_ROWS {
+    for i in 0..MAX_ROWS {
         let occurring = occurrences_in(x, y, i, d);
         if occurring != 0 {
             count += u16::count_ones(masks::apart(occurring, d.eb)) as u16;
         }
-        i += 1;
     }
     count as u8
 }
 
-// The score where they are two: no two occurrences overlap.
+// The score where they are two: no two occurrences overlap. A loop of its own, since one for both would test in each row what they are.
 fn score_all(x: Column, y: Column, d: Divisor) -> u8
     requires { (d.ea < positions) × (d.eb < positions) × (d.a ≡ d.b → ⊥) }
     ensures { result ≡ mask_score d x y }
 {
     let mut count: u16 = 0;
-    let mut i = 0;
-    while i < MAX_ROWS {
+    for i in 0..MAX_ROWS {
         let occurring = occurrences_in(x, y, i, d);
         count += u16::count_ones(occurring) as u16;
-        i += 1;
     }
     count as u8
 }
@@ -67,12 +64,10 @@ pub fn differ(x: Column, y: Column, x_after: Column, y_after: Column, d: Divisor
     ensures { result ≡ masks_differ d x y x_after y_after }
 {
     let mut changed: u16 = 0;
-    let mut i = 0;
-    while i < MAX_ROWS {
+    for i in 0..MAX_ROWS {
         let before = occurrences_in(x, y, i, d);
         let after = occurrences_in(x_after, y_after, i, d);
-        changed = changed | (before ^ after);
-        i += 1;
+        changed |= before ^ after;
     }
     changed != 0
 }
@@ -83,11 +78,9 @@ pub fn none_among(x: Column, y: Column, asked: [u16; MAX_ROWS], d: Divisor) -> b
     ensures { result ≡ none_among d x y (λ i. get_or asked i 0) }
 {
     let mut met: u16 = 0;
-    let mut i = 0;
-    while i < MAX_ROWS {
+    for i in 0..MAX_ROWS {
         let occurring = occurrences_in(x, y, i, d);
-        met = met | (occurring & asked[i]);
-        i += 1;
+        met |= occurring & asked[i];
     }
     met == 0
 }
@@ -98,15 +91,13 @@ pub fn taken(x: Column, y: Column, d: Divisor) -> [u16; MAX_ROWS]
     ensures { TakenAt result d x y }
 {
     let mut out = [0u16; MAX_ROWS];
-    let mut i = 0;
-    while i < MAX_ROWS {
+    for i in 0..MAX_ROWS {
         let occurring = occurrences_in(x, y, i, d);
         out[i] = if d.a == d.b {
             masks::apart(occurring, d.eb)
         } else {
             occurring
         };
-        i += 1;
     }
     out
 }
@@ -118,28 +109,25 @@ pub fn without(x: Column, taken: [u16; MAX_ROWS], e: u8) -> Column
 {
     let e = e as u16;
     let mut out = x;
-    let mut i = 0;
-    while i < MAX_ROWS {
+    for i in 0..MAX_ROWS {
         let gone = taken[i] << e;
         out[i] = x[i] ^ (x[i] & gone);
         out[MAX_ROWS + i] = x[MAX_ROWS + i] ^ (x[MAX_ROWS + i] & gone);
-        i += 1;
     }
     out
 }
 
-// The column of the new symbol: the co-divisors of the taken occurrences, with the signs of their first terms.
+// The column of the new symbol: the co-divisors of the taken occurrences, with the signs of their first terms. A closure for the masks of
+// `without` and of this would need a contract as long as either loop.
 pub fn made(x: Column, taken: [u16; MAX_ROWS], e: u8) -> Column
     requires { e < positions }
     ensures { Made result x taken e }
 {
     let e = e as u16;
     let mut out = x;
-    let mut i = 0;
-    while i < MAX_ROWS {
+    for i in 0..MAX_ROWS {
         out[i] = (x[i] >> e) & taken[i];
         out[MAX_ROWS + i] = (x[MAX_ROWS + i] >> e) & taken[i];
-        i += 1;
     }
     out
 }

@@ -6,8 +6,10 @@ ghost use Rattle.elimination_masks.specs.Masks.{occurrence_mask, apart_mask};
 
 use bits::bit_at;
 use elimination_rules::Divisor;
+use limits::POSITIONS;
 
 // Bit c: there is an occurrence with co-divisor c, from the plus and minus terms of a and of b.
+#[tactic(auto, unfolding(crate::specs::Masks::occurrence_mask))]
 pub(crate) fn occurrences(a_plus: u16, a_minus: u16, b_plus: u16, b_minus: u16, d: Divisor) -> u16
     requires { (d.ea < positions) × (d.eb < positions) }
     ensures { result ≡ occurrence_mask d a_plus a_minus b_plus b_minus }
@@ -24,13 +26,7 @@ fn takes(occurrences: u16, distance: u16, taken: u16, c: u16) -> bool
     requires { c < positions }
     ensures { result ≡ bit_at occurrences c && not (leb distance c && bit_at taken (c - distance)) }
 {
-    if bit_at(occurrences, c) {
-        if distance <= c {
-            return !bit_at(taken, c - distance);
-        }
-        return true;
-    }
-    false
+    bit_at(occurrences, c) && !(distance <= c && bit_at(taken, c - distance))
 }
 
 // Those taken where a and b are one symbol: by ascending co-divisor, one that overlaps none taken before.
@@ -39,12 +35,10 @@ pub(crate) fn apart(occurrences: u16, distance: u8) -> u16
 {
     let distance = distance as u16;
     let mut taken: u16 = 0;
-    let mut c: u16 = 0;
-    while c < 16 {
+    for c in 0..POSITIONS as u16 {
         if takes(occurrences, distance, taken, c) {
-            taken = taken + (1u16 << c);
+            taken += 1u16 << c;
         }
-        c += 1;
     }
     taken
 }

@@ -6,7 +6,7 @@ ghost use Rattle.std.specs.Prelude.{◌≡◌, ◌<◌};
 ghost use Rattle.limits.specs.Limits.{max_symbols};
 ghost use Rattle.elimination_rules.specs.Rows.{Precedes};
 ghost use Rattle.elimination_rules.specs.Divisors.{co_divisor, divisor_of};
-ghost use Rattle.elimination_rules.specs.Rank.{symbol_room, exponent_room, sign_key, divisor_key, key_divisor, divisor_rank};
+ghost use Rattle.elimination_rules.specs.Rank.{symbol_room, exponent_room, divisor_key, key_divisor, divisor_rank};
 
 use elimination_rules::Divisor;
 use limits::MAX_SYMBOLS;
@@ -23,12 +23,11 @@ const KEY_ROOM: u32 = SYMBOL_ROOM * SYMBOL_ROOM * EXPONENT_ROOM * EXPONENT_ROOM 
 pub fn co_divisor(t: Term, u: Term) -> u8
     ensures { result ≡ co_divisor (record { first = t; second = u }) }
 {
-    let te = t.exponent();
-    let ue = u.exponent();
-    if ue < te { ue } else { te }
+    t.exponent().min(u.exponent())
 }
 
 // The divisor of two terms of a row, the first of which stands before the second.
+#[tactic(auto, using(crate::proofs::Divisor::divisor_worked))]
 pub fn divisor_of(t: Term, u: Term) -> Divisor
     requires { Precedes t u }
     ensures { result ≡ divisor_of (record { first = t; second = u }) }
@@ -43,24 +42,19 @@ pub fn divisor_of(t: Term, u: Term) -> Divisor
     }
 }
 
-// Plus before minus.
-fn sign_key(minus: bool) -> u32
-    ensures { result ≡ sign_key minus }
-{
-    if minus { 1 } else { 0 }
-}
-
-// The smallest a, then b, then ea, then eb, then plus before minus.
+// The smallest a, then b, then ea, then eb, then plus before minus. No derived order is as plain: the key is also what the kept scores hold and
+// what test_scores prints the sums of, and one comparison of numbers decides.
 pub fn key(d: Divisor) -> u32
     requires { (d.a < symbol_room) × (d.b < symbol_room) × (d.ea < exponent_room) × (d.eb < exponent_room) }
     ensures { result ≡ divisor_key d }
 {
-    let symbols = d.a as u32 * SYMBOL_ROOM + d.b as u32;
-    let exponents = (symbols * EXPONENT_ROOM + d.ea as u32) * EXPONENT_ROOM + d.eb as u32;
-    exponents * 2 + sign_key(d.minus)
+    let symbols = u32::from(d.a) * SYMBOL_ROOM + u32::from(d.b);
+    let exponents = (symbols * EXPONENT_ROOM + u32::from(d.ea)) * EXPONENT_ROOM + u32::from(d.eb);
+    exponents * 2 + u32::from(d.minus)
 }
 
 // The divisor of a key.
+#[tactic(auto, unfolding(elimination_rules::specs::Rank::key_divisor))]
 pub fn divisor_of_key(key: u32) -> Divisor
     ensures { result ≡ key_divisor key }
 {
@@ -81,6 +75,6 @@ pub fn rank(depths: &[u16; MAX_SYMBOLS], key: u32) -> u64
     let d = divisor_of_key(key);
     let a = d.a as usize;
     let b = d.b as usize;
-    let depth = integers::larger(depths[a], depths[b]) as u64 + 1;
-    depth * KEY_ROOM as u64 + key as u64
+    let depth = u64::from(depths[a].max(depths[b])) + 1;
+    depth * u64::from(KEY_ROOM) + u64::from(key)
 }

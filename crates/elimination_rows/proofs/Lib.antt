@@ -1,5 +1,4 @@
-pub mod Filled
-pub mod InArray
+pub mod InSlice
 pub mod Members
 pub mod Columns
 pub mod Ready

@@ -29,7 +29,7 @@ use Rattle.elimination_rows.specs.State.{Ready}
 use Rattle.elimination_rows.proofs.Ready.{ready_after}
 use Rattle.elimination_rows.proofs.Members.{member_at}
 use Rattle.elimination_columns.proofs.After.{columns-after}
-use Rattle.elimination_kept.specs.Table.{table_of, Room, AllFit, SameBut}
+use Rattle.elimination_kept.specs.Table.{AllFit, SameBut}
 use Rattle.elimination_gained.specs.Gained.{columns_gained, RoomFor}
 use Rattle.elimination_state.specs.Running.{Running, StepOf}
 
@@ -77,11 +77,9 @@ module _ (n : ℕ) (within : n ≤ term_symbols) (rows : List Row) (ready : Read
   pub start-room : RoomFor [] (columns_gained columns (new_pairs_from 0 0 rows))
   start-room = rw (gained-is 0 n within rows ready columns of) (table-room n rows ready (first_table positions rows) (first-kept positions n rows ready.well_formed))
 
-  pub start_running : length columns ≡ term_symbols → (keys scores : List ℕ) (kept : ℕ) → Room keys scores kept → table_of keys scores kept ≡ columns_gained columns (new_pairs_from 0 0 rows)
-      → Running rows keys scores kept columns columns
-  start_running count keys scores kept room is = record {
-    room = room;
-    table = rw (is, gained-is 0 n within rows ready columns of) (first-kept positions n rows ready.well_formed);
+  pub start_running : length columns ≡ term_symbols → (table : List Scored) → table ≡ columns_gained columns (new_pairs_from 0 0 rows) → Running rows table columns columns
+  start_running count table is = record {
+    kept = rw (is, gained-is 0 n within rows ready columns of) (first-kept positions n rows ready.well_formed);
     columns_of = of;
     columns-count = count;
     same-columns = refl;
@@ -101,8 +99,8 @@ differ_settled before columns others e a b = ap₂ (λ (u v : List ℕ). masks_d
 
 -- ---- a step
 
-module _ (symbol : ℕ) (d : Divisor) (rows : List Row) (keys scores : List ℕ) (kept : ℕ) (columns after : List (List ℕ))
-    (ready : Ready symbol rows) (next : symbol < term_symbols) (of : StepOf symbol d) (running : Running rows keys scores kept columns after)
+module _ (symbol : ℕ) (d : Divisor) (rows : List Row) (table : List Scored) (columns after : List (List ℕ))
+    (ready : Ready symbol rows) (next : symbol < term_symbols) (of : StepOf symbol d) (running : Running rows table columns after)
     (taken x y : List ℕ) (t : TakenAt taken d (get_or columns d.a []) (get_or columns d.b []))
     (wx : Without x (get_or columns d.a []) taken d.ea) (wy : Without y (get_or (set after d.a x) d.b []) taken d.eb) where
   -- the columns of the divisor's symbols are those after the step
@@ -115,9 +113,6 @@ module _ (symbol : ℕ) (d : Divisor) (rows : List Row) (keys scores : List ℕ)
   abbrev rows_next : List Row
   rows_next = rows_after symbol d rows
 
-  abbrev table : List Scored
-  table = table_of keys scores kept
-
   pub masks_taken : TakenMasks d rows taken
   masks_taken = taken_masks symbol rows columns ready.well_formed running.columns_of d (omega (arith, of.a)) (omega (arith, of.b)) taken t
 
@@ -125,7 +120,7 @@ module _ (symbol : ℕ) (d : Divisor) (rows : List Row) (keys scores : List ℕ)
   ready_next = ready_after symbol d rows ready
 
   pub all_fit : AllFit table
-  all_fit = table_fits symbol (omega arith) rows ready table running.table
+  all_fit = table_fits symbol (omega arith) rows ready table running.kept
 
   pub same_but : SameBut d.a d.b columns partly
   same_but s na nb =
@@ -145,7 +140,7 @@ module _ (symbol : ℕ) (d : Divisor) (rows : List Row) (keys scores : List ℕ)
 
     refreshed-is : refreshed (columns_differ columns partly) (columns_score partly) table ≡ refreshed (counted_anew positions max_rows rows rows_next) (λ e. score e rows_next) table
     refreshed-is = refreshed_agree (columns_differ columns partly) (counted_anew positions max_rows rows rows_next) (columns_score partly) (λ e. score e rows_next) table
-        (λ s member. let w = entries-within positions symbol rows ready.well_formed table running.table s member in (differ_same s.divisor w.0, score-same s.divisor w.0 w.1))
+        (λ s member. let w = entries-within positions symbol rows ready.well_formed table running.kept s member in (differ_same s.divisor w.0, score-same s.divisor w.0 w.1))
       where
         differ_same : (e : Divisor) → DivisorWithin positions symbol e → columns_differ columns partly e ≡ counted_anew positions max_rows rows rows_next e
         differ_same e w =
@@ -160,17 +155,16 @@ module _ (symbol : ℕ) (d : Divisor) (rows : List Row) (keys scores : List ℕ)
     kept_next : Kept rows_next (refreshed (columns_differ columns partly) (columns_score partly) table ++ columns_gained next_columns (new_pairs_from symbol 0 rows_next))
     kept_next =
         rw (refreshed-is, gained-is symbol (suc symbol) (omega arith) rows_next ready_next next_columns next_of)
-        (next_kept positions max_rows symbol d of.proper rows table ready.well_formed ready.few running.table)
+        (next_kept positions max_rows symbol d of.proper rows table ready.well_formed ready.few running.kept)
 
     pub step_room : RoomFor (refreshed (columns_differ columns partly) (columns_score partly) table) (columns_gained next_columns (new_pairs_from symbol 0 rows_next))
     step_room = table-room (suc symbol) rows_next ready_next _ kept_next
 
-    pub step_running : (next_keys next_scores : List ℕ) (left : ℕ) → Room next_keys next_scores left
-        → table_of next_keys next_scores left ≡ refreshed (columns_differ columns partly) (columns_score partly) table ++ columns_gained next_columns (new_pairs_from symbol 0 rows_next)
-        → Running rows_next next_keys next_scores left next_columns (set partly symbol made)
-    step_running next_keys next_scores left room is = record {
-      room = room;
-      table = rw is kept_next;
+    pub step_running : (next_table : List Scored)
+        → next_table ≡ refreshed (columns_differ columns partly) (columns_score partly) table ++ columns_gained next_columns (new_pairs_from symbol 0 rows_next)
+        → Running rows_next next_table next_columns (set partly symbol made)
+    step_running next_table is = record {
+      kept = rw is kept_next;
       columns_of = next_of;
       columns-count =
           length-set (set (set columns d.a x) d.b y) symbol made ∙ length-set (set columns d.a x) d.b y ∙ length-set columns d.a x ∙ running.columns-count;

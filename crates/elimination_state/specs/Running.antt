@@ -4,15 +4,14 @@ use Rattle.std.specs.Prelude.{ℕ, ◌<◌, ◌≡◌, List, length}
 use Rattle.limits.specs.Limits.{positions, term_symbols}
 use Rattle.elimination_rules.specs.declared.Divisor.{Divisor}
 use Rattle.elimination_rules.specs.Rows.{Row}
+use Rattle.elimination_rules.specs.Elimination.{Scored}
 use Rattle.elimination_rules.specs.Lookup.{Proper}
 use Rattle.kept_rules.specs.Kept.{Kept}
 use Rattle.elimination_masks.specs.Columns.{ColumnsOf}
-use Rattle.elimination_kept.specs.Table.{table_of, Room}
 
 -- of the rows of a state: the table is theirs, and so are the columns; both tables of columns are the same between two steps
-pub record Running (rows : List Row) (keys scores : List ℕ) (kept : ℕ) (columns after : List (List ℕ)) : Type 0 where
-  pub room : Room keys scores kept
-  pub table : Kept rows (table_of keys scores kept)
+pub record Running (rows : List Row) (table : List Scored) (columns after : List (List ℕ)) : Type 0 where
+  pub kept : Kept rows table
   pub columns_of : ColumnsOf rows columns
   pub columns-count : length columns ≡ term_symbols
   pub same-columns : after ≡ columns

@@ -2,8 +2,8 @@
 // Rests on `elimination_columns`, `elimination_kept`, `elimination_gained` and `elimination_step`.
 #![tactic(auto)]
 
-ghost use Rattle.std.specs.Prelude.{◌≡◌, ◌+◌, ◌<◌, ◌≤◌, length};
-ghost use Rattle.limits.specs.Limits.{max_pairs, term_symbols};
+ghost use Rattle.std.specs.Prelude.{◌≡◌, ◌+◌, ◌<◌, ◌≤◌};
+ghost use Rattle.limits.specs.Limits.{term_symbols};
 ghost use Rattle.elimination_rules.specs.Elimination.{rows_after};
 ghost use Rattle.elimination_rows.specs.State.{rows_terms, Ready};
 ghost use Rattle.elimination_columns.specs.Entered.{blank_columns};
@@ -11,40 +11,29 @@ ghost use Rattle.elimination_state.specs.Running.{Running, StepOf};
 
 use elimination_columns::{Columns, enter_rows, enter_step};
 use elimination_gained::gain;
-use elimination_kept::refresh::refresh;
+use elimination_kept::KeptScores;
 use elimination_masks::columns::{made, taken, without};
 use elimination_rows::rows::Rows;
 use elimination_rules::Divisor;
 use elimination_step::rows_after;
-use limits::MAX_PAIRS;
 
-// The rows, the symbol that the next divisor gets, and how many entries the table of scores has.
+// The rows, and the symbol that the next divisor gets.
 #[derive(Clone, Copy)]
 pub struct RowsState {
     pub rows: Rows,
     pub symbol: u16,
-    pub kept: usize,
 }
 
 impl RowsState {
     // The first rows of n inputs: their columns, and the scores of all their divisors.
-    pub fn start(
-        rows: Rows,
-        n: u16,
-        keys: &mut [u32; MAX_PAIRS],
-        scores: &mut [u8; MAX_PAIRS],
-        columns: &mut Columns,
-    ) -> RowsState
-        requires { Ready n (rows_terms rows) × (n ≤ term_symbols) × (length keys.old ≡ max_pairs) × (length scores.old ≡ max_pairs) × (columns.old ≡ blank_columns) }
-        ensures { (rows_terms result.rows ≡ rows_terms rows) × (result.symbol ≡ n) × Running (rows_terms rows) keys.new scores.new result.kept columns.new columns.new }
+    pub fn start(rows: Rows, n: u16, kept: &mut KeptScores, columns: &mut Columns) -> RowsState
+        requires { Ready n (rows_terms rows) × (n ≤ term_symbols) × (columns.old ≡ blank_columns) }
+        ensures { (rows_terms result.rows ≡ rows_terms rows) × (result.symbol ≡ n) × Running (rows_terms rows) kept.new columns.new columns.new }
     {
         enter_rows(columns, rows);
-        let kept = gain(keys, scores, 0, columns, rows, 0);
-        RowsState {
-            rows,
-            symbol: n,
-            kept,
-        }
+        kept.clear();
+        gain(kept, columns, rows, 0);
+        RowsState { rows, symbol: n }
     }
 
     // The step of a divisor. The columns before it and after it say which entries are counted anew; then the entries of the new symbol are
@@ -52,13 +41,12 @@ impl RowsState {
     pub fn step(
         self,
         d: Divisor,
-        keys: &mut [u32; MAX_PAIRS],
-        scores: &mut [u8; MAX_PAIRS],
+        kept: &mut KeptScores,
         columns: &mut Columns,
         after: &mut Columns,
     ) -> RowsState
-        requires { Ready self.symbol (rows_terms self.rows) × (self.symbol < term_symbols) × StepOf self.symbol d × Running (rows_terms self.rows) keys.old scores.old self.kept columns.old after.old }
-        ensures { (rows_terms result.rows ≡ rows_after self.symbol d (rows_terms self.rows)) × (result.symbol ≡ self.symbol + 1) × Running (rows_terms result.rows) keys.new scores.new result.kept columns.new after.new }
+        requires { Ready self.symbol (rows_terms self.rows) × (self.symbol < term_symbols) × StepOf self.symbol d × Running (rows_terms self.rows) kept.old columns.old after.old }
+        ensures { (rows_terms result.rows ≡ rows_after self.symbol d (rows_terms self.rows)) × (result.symbol ≡ self.symbol + 1) × Running (rows_terms result.rows) kept.new columns.new after.new }
     {
         let a = d.a as usize;
         let b = d.b as usize;
@@ -69,16 +57,15 @@ impl RowsState {
         after[a] = x_after;
         let y_after = without(after[b], masks, d.eb);
         after[b] = y_after;
-        let left = refresh(keys, scores, self.kept, columns, after, d.a, d.b);
+        kept.refresh(columns, after, d.a, d.b);
         let new = made(x, masks, d.ea);
         after[symbol] = new;
         enter_step(columns, a, x_after, b, y_after, symbol, new);
         let rows = rows_after(self.symbol, d, masks, self.rows);
-        let kept = gain(keys, scores, left, columns, rows, self.symbol);
+        gain(kept, columns, rows, self.symbol);
         RowsState {
             rows,
             symbol: self.symbol + 1,
-            kept,
         }
     }
 }

@@ -2,14 +2,14 @@
 -- Assumes nothing.
 use Prim.Native.Nat.{ℕ, ◌+◌, ◌-◌, ◌≤◌, ◌<◌}
 use mathlib.Core.Path.{◌≡◌, refl, sym, ap, ap₂, ◌∙◌}
-use mathlib.Core.Bool.{Bool, true, false, ◌||◌}
-use mathlib.Core.List.{List, [], ◌∷◌, ◌++◌, map, append-nil}
+use mathlib.Core.Bool.{Bool, true, false}
+use mathlib.Core.List.{List, [], ◌∷◌, ◌++◌, append-nil, append_assoc}
 use native.Mathlib.Omega.{arith}
 use native.Mathlib.Numerals.{add-one}
-use borrow.Author.Tests.{eq-eqb, ne_eqb, le-leb, lt-leb}
+use borrow.Author.Tests.{eq-eqb, le-leb}
 use lib.Dec.{eqb, leb}
-use lib.ListN.{length, get_or, take, drop, set, replicate, length-append, length-take, length-replicate, get_or-replicate}
-use lib.Seq.{append_snoc, ext_get_or, set_at, get_or_at, take-suc, take_all, length-take-le}
+use lib.ListN.{length, get_or, take, drop, set, replicate, length-append, length-drop, length-replicate, get_or-replicate}
+use lib.Seq.{append_snoc, ext_get_or, set_at, take-suc, take_all, length-take-le}
 use Rattle.limits.specs.Limits.{positions}
 use Rattle.term.specs.declared.Term.{Term}
 use Rattle.bits.specs.Bits.{bit_at, bits_of}
@@ -23,57 +23,35 @@ use Rattle.elimination_rules.proofs.Order.{length-rows-after}
 use Rattle.elimination_rules.proofs.Replaced.{length-after}
 use Rattle.elimination_rules.proofs.LookupAfter.{row-after_looked_up}
 use Rattle.elimination_rules.proofs.LookupFlags.{padded_kept, padded_new}
-use Rattle.elimination_rows.specs.declared.row.Row.{Row as Stored}
-use Rattle.elimination_rows.specs.State.{no_row, row_terms}
-use Rattle.elimination_rows.proofs.Filled.{filled_more}
-use Rattle.elimination_rows.proofs.InArray.{first-row_at}
 use Rattle.elimination_rows.proofs.Members.{left_next, left_none}
 
 -- ---- whether a term is part of a taken occurrence
 
-module _ (symbol exponent : ℕ) (flags : List Bool) (t : Term) where
-  pub other_symbol : (t.symbol ≡ symbol → ⊥) → false ≡ part_as symbol exponent flags t
-  other_symbol h = rw (ne_eqb t.symbol symbol h)
+pub exponent_flag : (symbol exponent : ℕ) (flags : List Bool) (t : Term) → t.symbol ≡ symbol → exponent ≤ t.exponent → get_or flags (t.exponent - exponent) false ≡ part_as symbol exponent flags t
+exponent_flag symbol exponent flags t h k = rw (eq-eqb t.symbol symbol h, le-leb exponent t.exponent k)
 
-  module _ (h : t.symbol ≡ symbol) where
-    pub exponent-below : t.exponent < exponent → false ≡ part_as symbol exponent flags t
-    exponent-below k = rw (eq-eqb t.symbol symbol h, lt-leb exponent t.exponent k)
+-- ---- the terms that are kept, one more at a time
 
-    pub exponent_flag : exponent ≤ t.exponent → get_or flags (t.exponent - exponent) false ≡ part_as symbol exponent flags t
-    exponent_flag k = rw (eq-eqb t.symbol symbol h, le-leb exponent t.exponent k)
-
-pub as_first_lem : (a b : Bool) → a ≡ true → true ≡ a || b
-as_first_lem a b h = rw h
-
-pub as_second_lem : (a b x : Bool) → a ≡ false → x ≡ b → x ≡ a || b
-as_second_lem a b x h k = rw (h, k)
-
--- ---- the terms that are kept: those so far at the front of an array, and what is left of the row
-
-module _ (d : Divisor) (flags : List Bool) (r : Row) (i : ℕ) (none : Term) (h : i < length r) (out : List Term) (kept : ℕ) (whole : Row)
-    (so_far : take kept out ++ kept_terms d flags (drop i r) ≡ whole) where
-  pub kept_drops : part_of_taken d flags (get_or r i none) ≡ true → take kept out ++ kept_terms d flags (drop (i + 1) r) ≡ whole
+module _ (d : Divisor) (flags : List Bool) (r : Row) (i : ℕ) (none : Term) (h : i < length r) (kept whole : Row) (so_far : kept ++ kept_terms d flags (drop i r) ≡ whole) where
+  pub kept_drops : part_of_taken d flags (get_or r i none) ≡ true → kept ++ kept_terms d flags (drop (i + 1) r) ≡ whole
   unfolding kept_terms
-  kept_drops k = sym (ap (λ (l : Row). take kept out ++ l) (ap (kept_terms d flags) (left_next r i none h) ∙ rw (k, kept_terms))) ∙ so_far
+  kept_drops k = sym (ap (λ (l : Row). kept ++ l) (ap (kept_terms d flags) (left_next r i none h) ∙ rw (k, kept_terms))) ∙ so_far
 
-  pub kept_keeps : part_of_taken d flags (get_or r i none) ≡ false → kept < length out → (t : Term) → t ≡ get_or r i none
-      → take (kept + 1) (set out kept t) ++ kept_terms d flags (drop (i + 1) r) ≡ whole
+  pub kept_keeps : part_of_taken d flags (get_or r i none) ≡ false → (kept ++ get_or r i none ∷ []) ++ kept_terms d flags (drop (i + 1) r) ≡ whole
   unfolding kept_terms
-  kept_keeps k room t own =
-      ap (λ (l : Row). l ++ kept_terms d flags (drop (i + 1) r)) (filled_more out kept (length out) refl t room)
-      ∙ append_snoc (take kept out) t (kept_terms d flags (drop (i + 1) r))
-      ∙ ap (λ (x : Term). take kept out ++ x ∷ kept_terms d flags (drop (i + 1) r)) own
-      ∙ sym (ap (λ (l : Row). take kept out ++ l) (ap (kept_terms d flags) (left_next r i none h) ∙ rw (k, kept_terms)))
+  kept_keeps k =
+      append_assoc kept (get_or r i none ∷ []) (kept_terms d flags (drop (i + 1) r))
+      ∙ sym (ap (λ (l : Row). kept ++ l) (ap (kept_terms d flags) (left_next r i none h) ∙ rw (k, kept_terms)))
       ∙ so_far
 
 pub kept-end : (d : Divisor) (flags : List Bool) (r : Row) (i : ℕ) (done : Row) → length r ≤ i → done ++ kept_terms d flags (drop i r) ≡ done
 unfolding kept_terms
 kept-end d flags r i done h = ap (λ (l : Row). done ++ kept_terms d flags l) (left_none r i h) ∙ append-nil done
 
--- ---- the new terms: those so far at the front of an array, and those of the co-divisors that are left
+-- ---- the new terms: those so far, and those of the co-divisors that are left
 
-module _ (symbol : ℕ) (signs : Signs) (d : Divisor) (taken c : ℕ) (inside : c < positions) (out : List Term) (count : ℕ) (whole : Row)
-    (so_far : take count out ++ lookup_terms_from symbol signs d c (drop c (bits_of taken positions)) ≡ whole) where
+module _ (symbol : ℕ) (signs : Signs) (d : Divisor) (taken c : ℕ) (inside : c < positions) (out whole : Row)
+    (so_far : out ++ lookup_terms_from symbol signs d c (drop c (bits_of taken positions)) ≡ whole) where
   abbrev left : Row
   left = lookup_terms_from symbol signs d (c + 1) (drop (c + 1) (bits_of taken positions))
 
@@ -82,27 +60,22 @@ module _ (symbol : ℕ) (signs : Signs) (d : Divisor) (taken c : ℕ) (inside : 
       left_next (bits_of taken positions) c false (omega (arith, bits-length taken positions))
       ∙ ap (λ (x : Bool). x ∷ drop (c + 1) (bits_of taken positions)) (bit_of_list taken positions c inside ∙ e)
 
-  pub new_passes : bit_at taken c ≡ false → take count out ++ left ≡ whole
+  pub new_passes : bit_at taken c ≡ false → out ++ left ≡ whole
   unfolding lookup_terms_from
   new_passes e =
-      ap (λ (l : Row). take count out ++ l) (sym (ap (lookup_terms_from symbol signs d c) (next_flag false e) ∙ rw (lookup_terms_from, add-one c))) ∙ so_far
+      ap (λ (l : Row). out ++ l) (sym (ap (lookup_terms_from symbol signs d c) (next_flag false e) ∙ rw (lookup_terms_from, add-one c))) ∙ so_far
 
   module _ (e : bit_at taken c ≡ true) where
-    new_here : take count out ++ lookup_term symbol signs d c ∷ left ≡ whole
+    new_here : out ++ lookup_term symbol signs d c ∷ left ≡ whole
     unfolding lookup_terms_from
-    new_here = ap (λ (l : Row). take count out ++ l) (sym (ap (lookup_terms_from symbol signs d c) (next_flag true e) ∙ rw (lookup_terms_from, add-one c))) ∙ so_far
+    new_here = ap (λ (l : Row). out ++ l) (sym (ap (lookup_terms_from symbol signs d c) (next_flag true e) ∙ rw (lookup_terms_from, add-one c))) ∙ so_far
 
     -- where one more follows there is room for it
-    pub new_room : length whole ≤ length out → count < length out
-    new_room h =
-        omega (arith, ap (length {A = Term}) new_here, length-append (take count out) (lookup_term symbol signs d c ∷ left), length-take count out)
+    pub new_room : (most : ℕ) → length whole ≤ most → length out < most
+    new_room most h = omega (arith, ap (length {A = Term}) new_here, length-append out (lookup_term symbol signs d c ∷ left))
 
-    pub new_more : count < length out → (t : Term) → t ≡ lookup_term symbol signs d c → take (count + 1) (set out count t) ++ left ≡ whole
-    new_more room t own =
-        ap (λ (l : Row). l ++ left) (filled_more out count (length out) refl t room)
-        ∙ append_snoc (take count out) t left
-        ∙ ap (λ (x : Term). take count out ++ x ∷ left) own
-        ∙ new_here
+    pub new_more : (out ++ lookup_term symbol signs d c ∷ []) ++ left ≡ whole
+    new_more = append_assoc out (lookup_term symbol signs d c ∷ []) left ∙ new_here
 
 pub new_end : (symbol : ℕ) (signs : Signs) (d : Divisor) (taken c : ℕ) → positions ≤ c → (done : Row) → done ++ lookup_terms_from symbol signs d c (drop c (bits_of taken positions)) ≡ done
 unfolding lookup_terms_from
@@ -152,7 +125,7 @@ module _ (symbol : ℕ) (d : Divisor) (proper : Proper d) (r : Row) (w : WellFor
 pub row-after-short : (symbol : ℕ) (d : Divisor) (r : Row) (most : ℕ) → length r ≤ most → length (row_after symbol d r) ≤ most
 row-after-short symbol d r most h = omega (arith, (length-after symbol d r).0)
 
--- ---- the rows after a step, of which the first are put in the place of those before
+-- ---- the rows after a step, which take the places of those before one by one
 
 rows-after-append : (symbol : ℕ) (d : Divisor) (rows others : List Row) → rows_after symbol d (rows ++ others) ≡ rows_after symbol d rows ++ rows_after symbol d others
 unfolding rows_after
@@ -190,17 +163,15 @@ module _ (symbol : ℕ) (d : Divisor) (rows : List Row) where
     front : length done ≡ i
     front = length-rows-after symbol d (take i rows) ∙ length-take-le i rows (omega arith)
 
-    -- the next row is as it was before
-    pub partly_at : (array : List Stored) (m : ℕ) → map row_terms (take m array) ≡ partly_after symbol d rows i → i < m → row_terms (get_or array i no_row) ≡ row
-    partly_at array m so_far l =
-        first-row_at array m i l ∙ ap (λ (l : List Row). get_or l i []) (so_far ∙ partly_here) ∙ get_or_at done row (drop (i + 1) rows) [] i front
-
     pub partly_put : set (partly_after symbol d rows i) i (row_after symbol d row) ≡ partly_after symbol d rows (i + 1)
     partly_put =
         ap (λ (l : List Row). set l i (row_after symbol d row)) partly_here ∙ set_at done row (drop (i + 1) rows) (row_after symbol d row) i front ∙ sym partly_further
 
     pub partly_same : row_after symbol d row ≡ row → partly_after symbol d rows i ≡ partly_after symbol d rows (i + 1)
     partly_same e = partly_here ∙ ap (λ (r : Row). done ++ r ∷ drop (i + 1) rows) (sym e) ∙ sym partly_further
+
+    pub partly-length : length (partly_after symbol d rows i) ≡ length rows
+    partly-length = omega (arith, ap (length {A = Row}) partly_here, length-append done (row ∷ drop (i + 1) rows), front, length-drop (i + 1) rows)
 
   pub partly_end : (i : ℕ) → length rows ≤ i → partly_after symbol d rows i ≡ rows_after symbol d rows
   unfolding partly_after

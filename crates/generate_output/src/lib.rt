@@ -18,10 +18,11 @@ fn write_record(m: u8, n: u8, seed: u32, output: &mut [u8]) -> usize
     ensures { Wrote output.old output.new result (generate_output m n seed) }
 {
     let answer = generator::generate(m, n, seed, output);
-    if answer.refusal != 0 {
-        return text::write_refused(answer.refusal, answer.place, output);
+    // A number, since the documented call answers by `generate_answer`.
+    match answer.refusal {
+        0 => answer.written,
+        refusal => text::write_refused(refusal, answer.place, output),
     }
-    answer.written
 }
 
 // Writes it at the start of the lent bytes and answers how long it is; nothing where they are too few for some record.
@@ -29,6 +30,7 @@ pub fn write_generated(input: &[u8; INPUT_BYTES], output: &mut [u8]) -> usize
     ensures wrote { Wrote output.old output.new result (generate_output_in (length output.old) input.now) }
     ensures prefix_length { PrefixLength result output.new }
 {
+    // A closure that asks for room would need the whole equation again as its contract, for one `if`.
     if output.len() < LONGEST_RECORD {
         return 0;
     }

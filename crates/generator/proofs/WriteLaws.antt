@@ -5,7 +5,7 @@ use mathlib.Core.List.{flat_map}
 use Rattle.layout_rules.specs.Bytes.{little_endian}
 use Rattle.layout_rules.specs.Matrix.{coefficient_place}
 use Rattle.layout_rules.specs.Written.{written}
-use Rattle.layout_rules.proofs.Written.{record-length, record_next, records_none}
+use Rattle.layout_rules.proofs.Written.{record_next, records_none}
 use Rattle.generator.specs.Generator.{grown, upper_half, generated_words}
 use Rattle.generator.proofs.States.{length_generated}
 
@@ -16,9 +16,6 @@ with_coefficients buffer state count index = written buffer (coefficient_place i
 -- one coefficient
 module _ (buffer after : List ℕ) (state count index : ℕ) (more : index < count) (room : coefficient_place count ≤ length buffer)
     (IsWritten-one : after ≡ written buffer (coefficient_place index) (little_endian (upper_half (grown state)))) where
-  pub coefficient_length : length after ≡ length buffer
-  coefficient_length = record-length little_endian 2 (λ x. refl) buffer after (coefficient_place index) (upper_half (grown state)) (omega arith) IsWritten-one
-
   pub coefficient_next : with_coefficients after (grown state) count (index + 1) ≡ with_coefficients buffer state count index
   unfolding generated_words
   coefficient_next =

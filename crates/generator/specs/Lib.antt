@@ -1,3 +1,4 @@
 pub mod Generator
+pub mod Answer
 pub mod States
 pub mod Tests

@@ -1,5 +1,5 @@
-// Document 01, "Generated banks": generate, from m, n and a seed to a matrix record, refusals 4 and 6. Rests on `limits`,
-// `layout_records` and `layout_matrix`, and for its laws on `bank_rules`.
+// Document 01, "Generated banks": generate, from m, n and a seed to a matrix record, refusals 4 and 6. Rests on `refusals`,
+// `limits`, `layout_records` and `layout_matrix`, and for its laws on `bank_rules`.
 #![tactic(auto)]
 
 ghost use Rattle.std.specs.Prelude.{◌≡◌, ◌≤◌, length};
@@ -7,12 +7,15 @@ ghost use mathlib.Core.List.{flat_map};
 ghost use Rattle.layout_rules.specs.Bytes.{little_endian};
 ghost use Rattle.layout_rules.specs.Matrix.{coefficient_place};
 ghost use Rattle.layout_rules.specs.Written.{written};
-ghost use Rattle.generator.specs.Generator.{grown, upper_half, generated_words, generate_refused, generate_answer, generate_buffer};
+ghost use Rattle.generator.specs.Answer.{answer_of};
+ghost use Rattle.generator.specs.Generator.{grown, upper_half, generated_words, generate_answer, generate_buffer};
 
 use layout_matrix::{coefficient_place, write_matrix_head};
 use layout_records::little_endian::write_word;
+use refusals::Refusal;
 
-// What generate returns: a refusal and its place, or the bytes written.
+// What generate returns: a refusal and its place, or the bytes written. No Result: document 01's calls answer so, and generate_answer is an
+// equation of it.
 #[derive(Clone, Copy)]
 pub struct GenerateAnswer {
     pub refusal: u8,
@@ -20,15 +23,21 @@ pub struct GenerateAnswer {
     pub written: usize,
 }
 
-impl GenerateAnswer {
-    // a refusal, with the place 0 and nothing written
-    fn refused(refusal: u8) -> GenerateAnswer
-        ensures { result ≡ generate_refused refusal 0 }
-    {
-        GenerateAnswer {
-            refusal,
-            place: 0,
-            written: 0,
+impl From<Result<usize, Refusal>> for GenerateAnswer {
+    ghost from_gives = { λ written answer. answer ≡ answer_of written };
+
+    fn from(written: Result<usize, Refusal>) -> GenerateAnswer {
+        match written {
+            Ok(count) => GenerateAnswer {
+                refusal: 0,
+                place: 0,
+                written: count,
+            },
+            Err(refusal) => GenerateAnswer {
+                refusal: refusal.number(),
+                place: 0,
+                written: 0,
+            },
         }
     }
 }
@@ -40,7 +49,7 @@ const GROWTH: u32 = 0x9E37_79B9;
 fn grown_state(state: u32) -> u32
     ensures { result ≡ grown state }
 {
-    std::num::wrapping_add_u32(state, GROWTH)
+    state.wrapping_add(GROWTH)
 }
 
 // "the upper 16 bits of (state xor state shifted right by 15)".
@@ -62,24 +71,28 @@ fn write_coefficients(count: usize, seed: u32, buffer: &mut [u8])
     }
 }
 
-// The matrix record of m, n and a seed, at the start of the lent buffer. Nothing is written before it is known that all of it fits.
-pub fn generate(m: u8, n: u8, seed: u32, buffer: &mut [u8]) -> GenerateAnswer
-    ensures value { result ≡ generate_answer m n seed (length buffer.old) }
+// The bytes of the record, or the refusal. Nothing is written before it is known that all of it fits.
+fn write_record(m: u8, n: u8, seed: u32, buffer: &mut [u8]) -> Result<usize, Refusal>
+    ensures value { answer_of result ≡ generate_answer m n seed (length buffer.old) }
     ensures buffer_after { buffer.new ≡ generate_buffer m n seed buffer.old }
 {
     if limits::size_outside(m, n) {
-        return GenerateAnswer::refused(4);
+        return Err(Refusal::MatrixSize);
     }
     let count = (m as usize) * (n as usize);
     let size = coefficient_place(count);
     if buffer.len() < size {
-        return GenerateAnswer::refused(6);
+        return Err(Refusal::ShortBuffer);
     }
     write_matrix_head(m, n, buffer);
     write_coefficients(count, seed, buffer);
-    GenerateAnswer {
-        refusal: 0,
-        place: 0,
-        written: size,
-    }
+    Ok(size)
+}
+
+// The matrix record of m, n and a seed, at the start of the lent buffer.
+pub fn generate(m: u8, n: u8, seed: u32, buffer: &mut [u8]) -> GenerateAnswer
+    ensures value { result ≡ generate_answer m n seed (length buffer.old) }
+    ensures buffer_after { buffer.new ≡ generate_buffer m n seed buffer.old }
+{
+    write_record(m, n, seed, buffer).into()
 }

@@ -1,8 +1,8 @@
-// Laws of the whole numbers and of the signed machine integers that hold them: they stand in proofs/. Besides, what the code of several
-// crates works out of two numbers. Rests on nothing.
+// Laws of the whole numbers and of the signed machine integers that hold them: they stand in proofs/. Besides, the shift of
+// a number. Rests on nothing.
 #![tactic(auto)]
 
-ghost use Rattle.std.specs.Prelude.{◌≡◌, ◌<◌, ◌^◌, max, pos, ◌*ℤ◌};
+ghost use Rattle.std.specs.Prelude.{◌≡◌, ◌<◌, ◌^◌, pos, ◌*ℤ◌};
 ghost use Rattle.std.specs.Int.{w64};
 ghost use Rattle.std.proofs.Common.{SFits};
 
@@ -12,10 +12,4 @@ pub fn shifted(x: i64, s: u8) -> i64
     ensures { result ≡ x *ℤ pos (2 ^ s) }
 {
     x << s
-}
-
-pub fn larger(a: u16, b: u16) -> u16
-    ensures { result ≡ max a b }
-{
-    if a < b { b } else { a }
 }

@@ -1,17 +1,16 @@
--- A matrix record is its head and its coefficients, also as they are written, and the bytes of the head.
+-- A matrix record is its head and its coefficients, also as they are written.
 -- Assumes nothing.
-use Prim.Native.Nat.{ℕ, ◌+◌, ◌*◌, ◌/◌, ◌%◌, ◌≤◌}
+use Prim.Native.Nat.{ℕ, ◌+◌, ◌*◌, ◌≤◌}
 use mathlib.Core.Path.{◌≡◌, refl, sym, ap, ◌∙◌}
-use mathlib.Core.List.{List, [], ◌∷◌, ◌++◌, flat_map}
+use mathlib.Core.List.{List, ◌∷◌, ◌++◌, flat_map}
 use native.Mathlib.Nat.{zero-add}
 use native.Mathlib.Omega.{arith}
 use lib.ListN.{length, drop}
-use Rattle.limits.specs.Size.{SizeLimits}
 use Rattle.layout_rules.specs.Bytes.{little_endian}
 use Rattle.layout_rules.specs.Matrix.{matrix_kind, matrix_record, matrix_length, coefficient_place}
 use Rattle.layout_rules.specs.Written.{written}
 use Rattle.layout_rules.proofs.Lengths.{length_records}
-use Rattle.layout_rules.proofs.MatrixRecord.{record-fits, matrix-record-length}
+use Rattle.layout_rules.proofs.MatrixRecord.{matrix-record-length}
 use Rattle.layout_rules.proofs.Written.{written_start, written_after}
 use Rattle.layout_matrix.specs.Head.{matrix_head}
 
@@ -29,11 +28,3 @@ record-written m n words buffer with_head whole room e =
     ∙ written_after buffer 0 (matrix_head m n) (flat_map little_endian words) (coefficient_place 0) refl (omega (arith, whole, length_records little_endian 2 (λ x. refl) words))
     ∙ ap (written buffer 0) (sym (head_then_coefficients m n words whole))
     ∙ rw zero-add
-
--- the length takes one byte
-pub matrix-head-bytes : (m n size : ℕ) → SizeLimits m n → size ≡ matrix_length m n → size ∷ 0 ∷ matrix_kind ∷ 0 ∷ m ∷ n ∷ [] ≡ matrix_head m n
-matrix-head-bytes m n size limits e =
-    let few = record-fits m n limits in
-    let low : matrix_length m n % 256 ≡ matrix_length m n = omega arith in
-    let high : matrix_length m n / 256 ≡ 0 = omega arith in
-    rw (e, low, high)

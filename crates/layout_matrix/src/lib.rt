@@ -1,13 +1,16 @@
-// Document 01, "Matrix record" and "Why a record was declined": the matrix record, and no bytes, as `layout_rules` has them.
+// Document 01, "Matrix record" and "Why a record was declined": the matrix record, and no bytes, as `layout_rules` has them. Rests on
+// `layout_records` and `refusals`.
 #![tactic(auto)]
 
-ghost use Rattle.std.specs.Prelude.{◌≡◌, ◌++◌, ◌+◌, ◌^◌, ◌≤◌, ◌<◌, length, drop, get_or};
+ghost use Rattle.std.specs.Prelude.{◌≡◌, ◌++◌, ◌+◌, ◌^◌, ◌≤◌, ◌<◌, length, drop};
 ghost use Rattle.limits.specs.Size.{SizeLimits};
-ghost use Rattle.layout_rules.specs.Matrix.{rows, columns, matrix_refusal, coefficient_at, coefficient_place, signed_word};
+ghost use Rattle.layout_rules.specs.Matrix.{rows, columns, matrix_refusal, coefficient_at, coefficient_place};
 ghost use Rattle.layout_matrix.specs.Head.{matrix_head};
+ghost use Rattle.refusals.specs.Numbers.{number_of};
 
 use layout_records::little_endian::word_at;
 use limits::{MAX_COLUMNS, MAX_ROWS};
+use refusals::Refusal;
 
 const MATRIX_KIND: u16 = 1;
 
@@ -22,66 +25,46 @@ pub fn coefficient_place(index: usize) -> usize
     6 + 2 * index
 }
 
-// The byte at a place, 0 past the end.
-fn byte_at(bytes: &[u8], place: usize) -> u8
-    ensures { result ≡ get_or bytes.now place 0 }
-{
-    if place < bytes.len() {
-        return bytes[place];
-    }
-    0
-}
-
 // m; 0 of no bytes.
 pub fn row_count(bytes: &[u8]) -> u8
     ensures { result ≡ rows bytes.now }
 {
-    byte_at(bytes, 4)
+    bytes.get(4).copied().unwrap_or(0)
 }
 
-// n; 0 of no bytes.
+// n; 0 of no bytes. Two functions for two fields, as document 01 names them.
 pub fn column_count(bytes: &[u8]) -> u8
     ensures { result ≡ columns bytes.now }
 {
-    byte_at(bytes, 5)
+    bytes.get(5).copied().unwrap_or(0)
 }
 
-// The first of the refusals 1 to 5 that applies, 0 for none. No bytes are within the limits.
-pub fn matrix_refusal(bytes: &[u8]) -> u8
-    ensures { result ≡ matrix_refusal bytes.now }
+// The first of the refusals 1 to 5 that applies. No bytes are within the limits.
+#[tactic(auto, unfolding(layout_rules::specs::Matrix::matrix_refusal))]
+pub fn matrix_refusal(bytes: &[u8]) -> Result<(), Refusal>
+    ensures { number_of result ≡ matrix_refusal bytes.now }
 {
-    if bytes.len() == 0 {
-        return 0;
+    if bytes.is_empty() {
+        return Ok(());
     }
     if bytes.len() < 6 {
-        return 1;
+        return Err(Refusal::FewMatrixBytes);
     }
     if word_at(bytes, 0) as usize != bytes.len() {
-        return 2;
+        return Err(Refusal::MatrixLengthField);
     }
     if word_at(bytes, 2) != MATRIX_KIND {
-        return 3;
+        return Err(Refusal::MatrixKind);
     }
     let m = row_count(bytes);
     let n = column_count(bytes);
     if limits::size_outside(m, n) {
-        return 4;
+        return Err(Refusal::MatrixSize);
     }
     if bytes.len() != coefficient_place((m as usize) * (n as usize)) {
-        return 5;
+        return Err(Refusal::MatrixLength);
     }
-    0
-}
-
-// Two's complement of two bytes.
-fn signed_word(x: u16) -> i16
-    ensures { result ≡ signed_word x }
-{
-    if x < 32768 {
-        x as i16
-    } else {
-        -1 - ((65535 - x) as i16)
-    }
+    Ok(())
 }
 
 // The coefficient of an index, in the record's order.
@@ -89,7 +72,7 @@ pub fn coefficient(bytes: &[u8], index: usize) -> i16
     requires { coefficient_place index + 1 < length bytes.now }
     ensures { result ≡ coefficient_at bytes.now index }
 {
-    signed_word(word_at(bytes, coefficient_place(index)))
+    word_at(bytes, coefficient_place(index)).cast_signed()
 }
 
 // What stands before the coefficients: length, kind, m and n. What stands behind stays as it was.

@@ -1,7 +1,7 @@
 // Document 01, "Netlist and board machine": the kind and length of each record of a netlist, and where it stands behind a head of a
-// given length. Lengths and counts have 2 bytes, so no sum wraps.
-ghost use Rattle.std.specs.Prelude.{◌≡◌, ◌<◌, length};
-ghost use Rattle.layout_rules.specs.Places.{enough_bytes, operation_place, output_place, netlist_length};
+// given length. Lengths and counts have 2 bytes, so no sum wraps; their bounds stay clauses, since they are of plain numbers.
+ghost use Rattle.std.specs.Prelude.{◌≡◌, ◌<◌};
+ghost use Rattle.layout_rules.specs.Places.{operation_place, output_place, netlist_length};
 
 use limits::{MAX_OPERATIONS, MAX_ROWS};
 
@@ -31,13 +31,6 @@ pub const ENOUGH_BYTES: usize = WIDTH_HEAD_LENGTH
     + OPERATION_LENGTH * MAX_OPERATIONS
     + OUTPUT_LENGTH * MAX_ROWS
     + TOTALS_LENGTH;
-
-// Room for every netlist.
-pub fn no_netlist() -> [u8; ENOUGH_BYTES]
-    ensures { enough_bytes ≡ length result }
-{
-    [0; ENOUGH_BYTES]
-}
 
 pub fn operation_place(head: usize, k: usize) -> usize
     requires { (head < 65536) × (k < 65536) }

@@ -7,6 +7,7 @@ ghost use Rattle.layout_rules.specs.Places.{payload_of, totals_at};
 use super::little_endian::word_at;
 use layout_rules::{Operation, Output, Totals};
 
+#[tactic(auto, unfolding(layout_rules::specs::Records::operation_of))]
 pub fn operation_at(bytes: &[u8], place: usize) -> Operation
     requires { place + operation_length ≤ length bytes.now }
     ensures { result ≡ operation_of (payload_of bytes.now place operation_length) }
@@ -22,6 +23,7 @@ pub fn operation_at(bytes: &[u8], place: usize) -> Operation
     }
 }
 
+#[tactic(auto, unfolding(layout_rules::specs::Records::output_of))]
 pub fn output_at(bytes: &[u8], place: usize) -> Output
     requires { place + output_length ≤ length bytes.now }
     ensures { result ≡ output_of (payload_of bytes.now place output_length) }
@@ -35,6 +37,7 @@ pub fn output_at(bytes: &[u8], place: usize) -> Output
     }
 }
 
+#[tactic(auto, unfolding(layout_rules::specs::Records::totals_of))]
 pub fn totals_at(bytes: &[u8], place: usize) -> Totals
     requires { place + totals_length ≤ length bytes.now }
     ensures { result ≡ totals_at bytes.now place }

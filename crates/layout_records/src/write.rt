@@ -8,58 +8,66 @@ use super::places::{
 };
 use layout_rules::{Operation, Output, Totals};
 
+#[tactic(auto, unfolding(layout_rules::specs::Records::operation_payload))]
 pub fn write_operation(buf: &mut [u8], operation: Operation)
     requires { operation_length ≤ length buf.old }
     ensures { buf.new ≡ operation_bytes operation ++ drop operation_length buf.old }
 {
+    let [a_low, a_high] = operation.a.to_le_bytes();
+    let [b_low, b_high] = operation.b.to_le_bytes();
     let record = [
         OPERATION_LENGTH as u8,
         0,
         OPERATION_KIND as u8,
         0,
         operation.sign,
-        (operation.a % 256) as u8,
-        (operation.a / 256) as u8,
+        a_low,
+        a_high,
         operation.sa,
-        (operation.b % 256) as u8,
-        (operation.b / 256) as u8,
+        b_low,
+        b_high,
         operation.sb,
         operation.width,
     ];
     byte_slices::copy(&record, buf);
 }
 
+#[tactic(auto, unfolding(layout_rules::specs::Records::output_payload))]
 pub fn write_output(buf: &mut [u8], output: Output)
     requires { output_length ≤ length buf.old }
     ensures { buf.new ≡ output_bytes output ++ drop output_length buf.old }
 {
+    let [symbol_low, symbol_high] = output.symbol.to_le_bytes();
     let record = [
         OUTPUT_LENGTH as u8,
         0,
         OUTPUT_KIND as u8,
         0,
         output.sign,
-        (output.symbol % 256) as u8,
-        (output.symbol / 256) as u8,
+        symbol_low,
+        symbol_high,
         output.shift,
         output.width,
     ];
     byte_slices::copy(&record, buf);
 }
 
+#[tactic(auto, unfolding(layout_rules::specs::Records::totals_payload))]
 pub fn write_totals(buf: &mut [u8], totals: Totals)
     requires { totals_length ≤ length buf.old }
     ensures { buf.new ≡ totals_bytes totals ++ drop totals_length buf.old }
 {
+    let [operations_low, operations_high] = totals.operations.to_le_bytes();
+    let [depth_low, depth_high] = totals.depth.to_le_bytes();
     let record = [
         TOTALS_LENGTH as u8,
         0,
         TOTALS_KIND as u8,
         0,
-        (totals.operations % 256) as u8,
-        (totals.operations / 256) as u8,
-        (totals.depth % 256) as u8,
-        (totals.depth / 256) as u8,
+        operations_low,
+        operations_high,
+        depth_low,
+        depth_high,
     ];
     byte_slices::copy(&record, buf);
 }

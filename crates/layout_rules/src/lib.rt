@@ -11,7 +11,8 @@ pub struct Head {
     pub width: u8,
 }
 
-// Kind 3: (a shifted by sa) plus (sign 0) or minus (sign 1) (b shifted by sb), and its width.
+// Kind 3: (a shifted by sa) plus (sign 0) or minus (sign 1) (b shifted by sb), and its width. The sign is the record's byte, any of 256,
+// since `operation_of` gives it before refusal 9 tests it.
 #[derive(Clone, Copy)]
 pub struct Operation {
     pub sign: u8,
@@ -22,7 +23,8 @@ pub struct Operation {
     pub width: u8,
 }
 
-// Kind 4: plus (sign 0) or minus (sign 1) the symbol's entry shifted, or zero (sign 2), and its width.
+// Kind 4: plus (sign 0) or minus (sign 1) the symbol's entry shifted, or zero (sign 2), and its width. The sign is a byte too, by
+// `output_of`.
 #[derive(Clone, Copy)]
 pub struct Output {
     pub sign: u8,
@@ -38,7 +40,8 @@ pub struct Totals {
     pub depth: u16,
 }
 
-// A step's numbers. A refusal has the place given, kind 0 and next place 0; an accepted step has refusal 0 at place 0.
+// A step's numbers. A refusal has the place given, kind 0 and next place 0; an accepted step has refusal 0 at place 0. They are numbers,
+// since the C interface has them so and `step_numbers` says what they are.
 #[derive(Clone, Copy)]
 pub struct StepNumbers {
     pub refusal: u8,
@@ -47,7 +50,7 @@ pub struct StepNumbers {
     pub next: usize,
 }
 
-// What the step hands back: its numbers, and the payload as a part of the lent bytes.
+// What the step hands back: its numbers, as `numbers_of` has them, and the payload as a part of the lent bytes.
 #[derive(Clone, Copy)]
 pub struct StepAnswer<'a> {
     pub refusal: u8,

@@ -4,7 +4,7 @@
 #![tactic(auto)]
 
 ghost use Rattle.std.specs.Prelude.{◌≡◌};
-ghost use Rattle.limits.specs.Size.{size_outside, sample_width_outside};
+ghost use Rattle.limits.specs.Size.{outside, size_outside, sample_width_outside};
 
 // "m (1 byte), n (1 byte), each 1 to 8".
 pub const MAX_ROWS: usize = 8;
@@ -46,28 +46,23 @@ pub const TERM_SYMBOLS: usize = MAX_COLUMNS + MAX_DIVISORS;
 // The most symbols of a netlist: inputs and operations.
 pub const MAX_SYMBOLS: usize = MAX_COLUMNS + MAX_OPERATIONS;
 
+// Whether a number is outside 1 to the most.
+fn outside(most: usize, x: u8) -> bool
+    ensures { result ≡ outside most x }
+{
+    x < 1 || x as usize > most
+}
+
 // Whether m or n is outside 1 to 8.
 pub fn size_outside(m: u8, n: u8) -> bool
     ensures { result ≡ size_outside m n }
 {
-    if m < 1 {
-        return true;
-    }
-    if m as usize > MAX_ROWS {
-        return true;
-    }
-    if n < 1 {
-        return true;
-    }
-    n as usize > MAX_COLUMNS
+    outside(MAX_ROWS, m) || outside(MAX_COLUMNS, n)
 }
 
 // Whether a sample width is outside 8 to 24.
 pub fn sample_width_outside(width: u8) -> bool
     ensures { result ≡ sample_width_outside width }
 {
-    if width < LEAST_SAMPLE_WIDTH {
-        return true;
-    }
-    width > MOST_SAMPLE_WIDTH
+    width < LEAST_SAMPLE_WIDTH || width > MOST_SAMPLE_WIDTH
 }

@@ -14,6 +14,7 @@ use layout_records::places::{operation_place, output_place};
 use layout_records::read::{operation_at, output_at};
 use listing_lines::{write_counts, write_operation, write_output};
 use listing_rules::Counts;
+use text::write_lines;
 
 // The lines of a netlist's operations, behind its head of so many bytes, with symbols from the number of inputs on.
 fn write_operations(
@@ -29,15 +30,14 @@ fn write_operations(
     ensures wrote { Wrote text.old text.new result (lines operation_line inputs (first_operations netlist.now operations)) }
     ensures upper_bound { result ≤ longest_operation_line * operations }
 {
-    let mut k: u16 = 0;
-    let mut at: usize = 0;
-    while k < operations {
-        let place = operation_place(head, k as usize);
-        let operation = operation_at(netlist, place);
-        at += write_operation(inputs + k, operation, &mut text[at..]);
-        k += 1;
-    }
-    at
+    write_lines(
+        operations,
+        |k, part| {
+            let place = operation_place(head, k as usize);
+            write_operation(inputs + k, operation_at(netlist, place), part)
+        },
+        text,
+    )
 }
 
 // The lines of a netlist's outputs, behind its head of so many bytes and its operations, with rows from 0 on.
@@ -53,15 +53,14 @@ fn write_outputs(
     ensures wrote { Wrote text.old text.new result (lines output_line 0 (first_outputs netlist.now operations outputs)) }
     ensures upper_bound { result ≤ longest_output_line * outputs }
 {
-    let mut row: u16 = 0;
-    let mut at: usize = 0;
-    while row < outputs {
-        let place = output_place(head, operations as usize, row as usize);
-        let output = output_at(netlist, place);
-        at += write_output(row, output, &mut text[at..]);
-        row += 1;
-    }
-    at
+    write_lines(
+        outputs,
+        |row, part| {
+            let place = output_place(head, operations as usize, row as usize);
+            write_output(row, output_at(netlist, place), part)
+        },
+        text,
+    )
 }
 
 // The whole text of a netlist: its counts, its operations, its outputs.

@@ -1,6 +1,6 @@
 // Document 01, "Programs": the lines that the program list-bank prints, as `listing_rules` has them. Each writer is lent the part of
 // the text that starts at the current place, as those of `text` are.
-#![tactic(auto)]
+#![tactic(auto, using(text::proofs::Writers::writers))]
 
 ghost use Rattle.std.specs.Prelude.{◌++◌, ◌+◌, ◌<◌, ◌≤◌, length};
 ghost use Rattle.listing_rules.specs.Listing.{shifted_operand, counts_line, operation_sign, operation_line, entry_text, value_text, output_line};
@@ -49,10 +49,8 @@ fn write_second(operation: Operation, text: &mut [u8]) -> usize
     ensures wrote { Wrote text.old text.new result (operation_sign operation.sign ++ shifted_operand operation.b operation.sb) }
     ensures upper_bound { result ≤ 15 }
 {
-    if operation.sign == 0 {
-        return write_pair(b" + ", operation.b, b"<<", operation.sb as u16, text);
-    }
-    write_pair(b" - ", operation.b, b"<<", operation.sb as u16, text)
+    let sign: &[u8] = if operation.sign == 0 { b" + " } else { b" - " };
+    write_pair(sign, operation.b, b"<<", operation.sb as u16, text)
 }
 
 // The line of the operation with a symbol.
@@ -80,10 +78,8 @@ fn write_entry(output: Output, text: &mut [u8]) -> usize
     ensures wrote { Wrote text.old text.new result (entry_text output) }
     ensures upper_bound { result ≤ 16 }
 {
-    if output.sign == 0 {
-        return write_pair(b" = ", output.symbol, b"<<", output.shift as u16, text);
-    }
-    write_pair(b" = -", output.symbol, b"<<", output.shift as u16, text)
+    let sign: &[u8] = if output.sign == 0 { b" = " } else { b" = -" };
+    write_pair(sign, output.symbol, b"<<", output.shift as u16, text)
 }
 
 // What stands behind an output's row.
@@ -92,6 +88,7 @@ fn write_value(output: Output, text: &mut [u8]) -> usize
     ensures wrote { Wrote text.old text.new result (value_text output) }
     ensures upper_bound { result ≤ 29 }
 {
+    // A byte of the record, which `value_text` asks for.
     if output.sign == 2 {
         return byte_slices::copy(b" = zero width 1\n", text);
     }

@@ -1,7 +1,7 @@
 -- What is answered of the lines behind the size line, from the entries read of them.
 -- Assumes nothing.
-use Prim.Native.Nat.{ℕ, suc, ◌+◌, ◌*◌, ◌≤◌, ◌<◌}
-use mathlib.Core.Path.{◌≡◌, sym, ap, ap₂, ◌∙◌}
+use Prim.Native.Nat.{ℕ, suc, ◌+◌, ◌*◌, ◌-◌, ◌≤◌, ◌<◌}
+use mathlib.Core.Path.{◌≡◌, sym, ap, ap₂, subst, ◌∙◌}
 use mathlib.Core.Bool.{Bool, true, false}
 use mathlib.Core.List.{List, [], ◌++◌}
 use native.Mathlib.Decide.{dec_lt}
@@ -9,6 +9,7 @@ use native.Mathlib.Nat.{add-zero}
 use native.Mathlib.Omega.{arith}
 use lib.Dec.{ltb, eqb}
 use lib.ListN.{length, get_or, take, drop, length-take, length-drop}
+use lib.Seq.{take_all}
 use borrow.Author.Tests.{lt-ltb, le-ltb, eq-eqb, ne_eqb}
 use Rattle.limits.specs.Size.{SizeLimits}
 use Rattle.layout_rules.specs.Matrix.{matrix_record}
@@ -18,7 +19,7 @@ use Rattle.market_rules.specs.declared.MarketAnswer.{MarketAnswer}
 use Rattle.market_rules.specs.Lines.{lines, line_place}
 use Rattle.market_rules.specs.Forms.{is_entry, entry_value}
 use Rattle.market_rules.specs.Market.{size_index, file_rows, file_columns, entry_count, entry_lines, entry_place, file_entry, leading_entry_count, twos_complement, entry_index, coefficient_words, market_record, market_refused, market_accepted, entries_answer}
-use Rattle.market_rules.proofs.LineLaws.{lines_from, place-from, place-there, place_missing, leading_within}
+use Rattle.market_rules.proofs.LineLaws.{lines_from, place-from, place-within, place-there, place_missing, leading_within}
 use Rattle.market_rules.proofs.MarketRecord.{within-number}
 use Rattle.market.specs.declared.Entries.{Entries}
 use Rattle.market.specs.Parts.{EntriesRead, record_of, record_answer, record_buffer, entries_buffer}
@@ -31,6 +32,13 @@ module _ (text : List ℕ) (start : ℕ) (starts : start ≡ entry_place text 0)
   at_entries : start ≡ line_place text (suc (size_index text))
   at_entries = starts ∙ ap (line_place text) (add-zero (suc (size_index text)))
 
+  pub start-within : start ≤ length text
+  start-within = omega (arith, starts, place-within text (suc (size_index text) + 0))
+
+  -- what code reads is the part from the end of the size line on
+  pub read_rest : (words : List ℕ) (read : Entries) → EntriesRead (take (length text - start) rest) words read → EntriesRead rest words read
+  read_rest words read is = subst (λ (l : List ℕ). EntriesRead l words read) (take_all (length text - start) rest (omega (arith, length-drop start text))) is
+
   lines_rest : lines rest ≡ entry_lines text
   lines_rest = ap (λ (p : ℕ). lines (drop p text)) at_entries ∙ lines_from text (suc (size_index text))
 
@@ -39,8 +47,11 @@ module _ (text : List ℕ) (start : ℕ) (starts : start ≡ entry_place text 0)
       place-from text (suc (size_index text)) k
       ∙ ap (λ (p : ℕ). p + line_place (drop p text) k) (sym at_entries)
 
-  module _ (buffer words : List ℕ) (read : Entries) (is : EntriesRead rest words read) (all : length words ≡ entry_count text)
-      (within : start ≤ length text) where
+  -- where the lines read end
+  pub read-within : (words : List ℕ) (read : Entries) → EntriesRead rest words read → start + read.bytes ≤ length text
+  read-within words read is = omega (arith, start-within, is.placed, place-within rest read.count, length-drop start text)
+
+  module _ (buffer words : List ℕ) (read : Entries) (is : EntriesRead rest words read) (all : length words ≡ entry_count text) where
     abbrev place : ℕ
     place = start + read.bytes
 
@@ -69,7 +80,7 @@ module _ (text : List ℕ) (start : ℕ) (starts : start ≡ entry_place text 0)
         go : Dec (read.count < length (entry_lines text)) → length (entry_lines text) ≤ read.count
         go (yes l) =
             let there = place-there rest read.count (omega (arith, ap length lines_rest)) in
-            absurd (omega (arith, there, is.placed, length-drop start text))
+            absurd (omega (arith, there, is.placed, length-drop start text, start-within))
         go (no l) = omega arith
 
     line_left : place < length text → read.count < length (entry_lines text)
@@ -79,7 +90,7 @@ module _ (text : List ℕ) (start : ℕ) (starts : start ≡ entry_place text 0)
         go (yes l) = l
         go (no l) =
             let missing = place_missing rest read.count (omega (arith, ap length lines_rest)) in
-            absurd (omega (arith, missing, is.placed, length-drop start text))
+            absurd (omega (arith, missing, is.placed, length-drop start text, start-within))
 
     refused_with : (r p : ℕ) → entries_answer text (length buffer) ≡ market_refused (suc r) p → Leaves (market_refused (suc r) p) buffer
     unfolding entries_buffer

@@ -11,7 +11,7 @@ use Rattle.layout_rules.specs.Places.{first_records}
 use Rattle.layout_rules.specs.Written.{written}
 use Rattle.layout_rules.proofs.FirstRecords.{length-first}
 use Rattle.layout_rules.proofs.Lengths.{length_records}
-use Rattle.layout_rules.proofs.Written.{written-nothing, written_after, length-written, record-length}
+use Rattle.layout_rules.proofs.Written.{written-nothing, written_after, length-written}
 
 flat_last : (xs : List ℕ) (x : ℕ) → flat_map little_endian (xs ++ (x ∷ [])) ≡ flat_map little_endian xs ++ little_endian x
 unfolding flat_map
@@ -32,10 +32,6 @@ module _ (f : ℕ → ℕ) (count k : ℕ) (old buffer after : List ℕ) (more :
 
   buffer-length : length buffer ≡ length old
   buffer-length = ap length before ∙ length-written old (coefficient_place 0) (flat_map little_endian (first_records f k)) (omega (arith, words-length))
-
-  pub coefficient_length : length after ≡ length old
-  coefficient_length =
-      record-length little_endian 2 (λ x. refl) buffer after (coefficient_place k) (f k) (omega (arith, buffer-length)) one ∙ buffer-length
 
   pub coefficient_next : after ≡ written old (coefficient_place 0) (flat_map little_endian (first_records f (k + 1)))
   unfolding first_records

@@ -1,11 +1,11 @@
 -- Comments, one after another: how many bytes they have from a place on.
 -- Assumes nothing.
-use Prim.Native.Nat.{ℕ, suc, ◌+◌, ◌≤◌, ◌<◌}
+use Prim.Native.Nat.{ℕ, suc, ◌+◌, ◌<◌}
 use mathlib.Core.Path.{◌≡◌, refl, sym, ap, ◌∙◌}
 use mathlib.Core.Bool.{true, false, true≢false}
 use mathlib.Core.List.{List, [], ◌∷◌, flatten}
 use native.Mathlib.Omega.{arith}
-use lib.ListN.{length, get_or, drop, drop_of_length-le}
+use lib.ListN.{length, get_or, drop}
 use lib.Seq.{drop-drop}
 use Rattle.market_rules.specs.Lines.{lines, line, line_place, leading_count}
 use Rattle.market_rules.specs.Forms.{is_comment}
@@ -33,10 +33,6 @@ comment_stop text e = ap (line_place text) (no_comment (lines text) e) ∙ (unfo
 
 -- from a place on
 module _ (text : List ℕ) (start place : ℕ) (same_end : start + comment_bytes (drop start text) ≡ place + comment_bytes (drop place text)) where
-  pub comments-none : length text ≤ place → place ≡ start + comment_bytes (drop start text)
-  unfolding lines leading_count flatten
-  comments-none h = sym (same_end ∙ rw (drop_of_length-le text {i = place} h) (omega arith))
-
   pub comments_stop : is_comment (line (drop place text) 0) ≡ false → place ≡ start + comment_bytes (drop start text)
   comments_stop e = omega (arith, same_end, comment_stop (drop place text) e)
 

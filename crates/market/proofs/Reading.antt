@@ -13,6 +13,7 @@ use Rattle.layout_rules.proofs.FirstRecords.{last_or_earlier}
 use Rattle.market_rules.specs.Lines.{lines, line, line_place, leading_count}
 use Rattle.market_rules.specs.Forms.{leading_digits, is_entry, entry_value}
 use Rattle.market_rules.specs.Market.{leading_entry_count, twos_complement}
+use Rattle.market.specs.Parts.{EntriesRead}
 use Rattle.market_rules.proofs.LineLaws.{line-from, place_next, place-within, leading_one, leading_none}
 
 -- a missing line is no entry
@@ -58,14 +59,25 @@ module _ (text : List ℕ) (wanted : ℕ) (words : List ℕ) (count behind : ℕ
       let same : count + 0 ≡ count = omega arith in
       get_or-drop count (lines text) 0 [] ∙ ap (λ (k : ℕ). get_or (lines text) k []) same ∙ sym next_line
 
-  pub read_all : wanted ≤ count → count ≡ leading_entry_count (take wanted (lines text))
-  unfolding leading_count
-  read_all h =
-      let none : wanted - count ≡ 0 = omega arith in
-      sym (so_far.counted ∙ rw none (omega arith))
+  read_are : (told : ℕ) → told ≡ count → length words ≡ wanted → count ≡ leading_entry_count (take wanted (lines text))
+      → EntriesRead text words record { count = told; bytes = behind }
+  read_are told same room whole = record {
+    counted = same ∙ whole ∙ ap (λ (k : ℕ). leading_entry_count (take k (lines text))) (sym room);
+    placed = so_far.placed ∙ ap (line_place text) (sym same);
+    told = λ k h. so_far.told k (omega (arith, same));
+  }
 
-  pub read_stop : is_entry (line (drop behind text) 0) ≡ false → count ≡ leading_entry_count (take wanted (lines text))
-  read_stop e = omega (arith, so_far.counted, entries_stop (wanted - count) (drop count (lines text)) (ap is_entry first_left ∙ e))
+  -- as many as there is room for
+  pub read_all : count ≡ wanted → length words ≡ wanted → EntriesRead text words record { count = length words; bytes = behind }
+  unfolding leading_count
+  read_all all room =
+      let none : wanted - count ≡ 0 = omega arith in
+      read_are (length words) (room ∙ sym all) room (sym (so_far.counted ∙ rw none (omega arith)))
+
+  -- the next line is no entry
+  pub read_stop : length words ≡ wanted → is_entry (line (drop behind text) 0) ≡ false → EntriesRead text words record { count = count; bytes = behind }
+  read_stop room e =
+      read_are count refl room (omega (arith, so_far.counted, entries_stop (wanted - count) (drop count (lines text)) (ap is_entry first_left ∙ e)))
 
   -- one more
   module _ (end word : ℕ) (more : count < wanted) (room : length words ≡ wanted) (is-end : end ≡ behind + length (line (drop behind text) 0))

@@ -1,12 +1,13 @@
 -- The places of a file's lines as code comes to them, and what is answered and left in the buffer, test by test.
 -- Assumes nothing.
-use Prim.Native.Nat.{ℕ, suc, ◌+◌, ◌<◌, min}
+use Prim.Native.Nat.{ℕ, suc, ◌+◌, ◌-◌, ◌<◌, min}
 use mathlib.Core.Path.{◌≡◌, refl, sym, ap, ap₂, ◌∙◌}
 use mathlib.Core.Bool.{Bool, true, false, ◌||◌}
 use mathlib.Core.List.{List, flatten}
 use native.Mathlib.Omega.{arith}
-use lib.Dec.{ltb}
-use lib.ListN.{length, drop}
+use lib.Dec.{ltb, eqb}
+use lib.ListN.{length, take, drop}
+use lib.Pointwise.{pointwise}
 use borrow.Author.Tests.{ltb-true, ltb-false, lt-ltb, le-ltb}
 use Rattle.limits.specs.Limits.{max_rows, max_columns}
 use Rattle.limits.specs.Size.{outside, size_outside}
@@ -15,7 +16,8 @@ use Rattle.market_rules.specs.declared.MarketAnswer.{MarketAnswer}
 use Rattle.market_rules.specs.Lines.{lines, line, line_place}
 use Rattle.market_rules.specs.Forms.{same, first_line, is_size}
 use Rattle.market_rules.specs.Market.{comment_count, size_index, size_place, file_rows, file_columns, entry_place, market_refused, entries_answer, market_answer, market_buffer}
-use Rattle.market_rules.proofs.LineLaws.{lines_from, line-from, place-from, place_next}
+use Rattle.market_rules.proofs.LineLaws.{lines_from, line_taken, line_part, line-from, place-from, place_next}
+use Rattle.market_lines.proofs.Scan.{equal_slices}
 use Rattle.market.specs.Parts.{comment_bytes, entries_buffer}
 
 -- ---- places
@@ -24,6 +26,14 @@ module _ (text : List ℕ) (first : ℕ) (is-first : first ≡ 0 + length (line 
   pub first-end : first ≡ line_place text 1
   unfolding flatten
   first-end = is-first ∙ sym (place_next text 0)
+
+  -- what `==` tells of the first line
+  pub first_told : pointwise eqb (take first text) first_line ≡ same (line text 0) first_line
+  first_told =
+      let size : first ≡ length (line text 0) = omega (arith, is-first) in
+      equal_slices (take first text) first_line
+      ∙ ap (λ (k : ℕ). same (take k text) first_line) size
+      ∙ ap (λ (l : List ℕ). same l first_line) (line_taken text)
 
   module _ (place : ℕ) (is-place : place ≡ first + comment_bytes (drop first text)) where
     pub at_size : place ≡ size_place text
@@ -36,15 +46,19 @@ module _ (text : List ℕ) (first : ℕ) (is-first : first ≡ 0 + length (line 
         ∙ sym (place-from text 1 (comment_count (drop 1 (lines text))))
         ∙ ap (line_place text) next
 
-    pub size-there : line (drop place text) 0 ≡ line text (size_index text)
+    size-there : line (drop place text) 0 ≡ line text (size_index text)
     size-there =
         let same_index : size_index text + 0 ≡ size_index text = omega arith in
         ap (λ (p : ℕ). line (drop p text) 0) at_size ∙ line-from text (size_index text) 0 ∙ ap (line text) same_index
 
-    pub at_entries : (end : ℕ) → end ≡ place + length (line (drop place text) 0) → end ≡ entry_place text 0
-    at_entries end is-end =
-        let next : size_index text + 1 ≡ suc (size_index text) + 0 = omega arith in
-        is-end ∙ ap (λ (p : ℕ). p + length (line (drop p text) 0)) at_size ∙ sym (place_next text (size_index text)) ∙ ap (line_place text) next
+    module _ (end : ℕ) (is-end : end ≡ place + length (line (drop place text) 0)) where
+      pub size_line : take (end - place) (drop place text) ≡ line text (size_index text)
+      size_line = line_part text place end is-end ∙ size-there
+
+      pub at_entries : end ≡ entry_place text 0
+      at_entries =
+          let next : size_index text + 1 ≡ suc (size_index text) + 0 = omega arith in
+          is-end ∙ ap (λ (p : ℕ). p + length (line (drop p text) 0)) at_size ∙ sym (place_next text (size_index text)) ∙ ap (line_place text) next
 
 -- ---- sizes of which at most 255 is told
 

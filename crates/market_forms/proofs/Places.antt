@@ -2,26 +2,24 @@
 -- of an entry.
 -- Assumes nothing.
 use Prim.Native.Nat.{ℕ, zero, suc, ◌+◌, ◌-◌, ◌%◌, ◌≤◌, ◌<◌}
-use mathlib.Core.Path.{◌≡◌, refl, sym, ap, ap₂, ◌∙◌}
-use mathlib.Core.Bool.{Bool, true, false, cond, ◌&&◌, and_assoc}
+use mathlib.Core.Path.{◌≡◌, refl, sym, ap, ◌∙◌}
+use mathlib.Core.Bool.{Bool, true, false, cond, ◌&&◌, and-true, and_assoc}
 use mathlib.Core.List.{List, [], ◌∷◌, ◌++◌}
-use native.Mathlib.Nat.{add-zero}
 use native.Mathlib.Omega.{arith}
-use lib.Dec.{leb, ltb, eqb, eqb-suc-suc, eqb-suc-zero}
+use lib.Dec.{leb, ltb, eqb}
 use lib.IntN.{pos, neg_ℤ}
-use lib.ListN.{length, get_or, drop, length-drop}
-use lib.Seq.{drop-drop, get_or-drop}
-use borrow.Author.Tests.{ltb-true, lt-ltb, eqb-true, eq-eqb}
+use lib.ListN.{length, take, drop, length-drop}
+use lib.Pointwise.{pointwise}
+use lib.Seq.{drop-drop, take_all}
+use borrow.Author.Tests.{eqb-true, eq-eqb}
+use Rattle.std.specs.Int.{from_bool}
 use Rattle.integers.proofs.Truth.{same_truth}
 use Rattle.text.specs.Decimal.{decimal_value}
 use Rattle.market_rules.specs.Lines.{line_feed}
-use Rattle.market_rules.specs.Forms.{blank, minus_sign, same, is_digit, leading_digits, nonempty, row_digits, column_digits, is_size, is_negative, entry_digits, is_entry, entry_value}
+use Rattle.market_rules.specs.Forms.{blank, minus_sign, same, is_digit, leading_digits, nonempty, row_digits, column_digits, is_size, is_negative, unsigned, entry_digits, is_entry, entry_value}
 use Rattle.market_rules.specs.Market.{twos_complement}
-use Rattle.market_forms.specs.Ends.{ends_number}
-
--- the last byte's place
-pub last-place : (long end : ℕ) → end < long → eqb (long - 1) end ≡ eqb long (end + 1)
-last-place long end within = same_truth _ _ (λ e. omega (arith, eqb-true, eq-eqb)) (λ e. omega (arith, eqb-true, eq-eqb))
+use Rattle.market_lines.proofs.Scan.{equal_slices}
+use Rattle.market_forms.specs.Ends.{is_number}
 
 -- ---- digits, and what stands behind them
 
@@ -39,95 +37,86 @@ same-behind (b ∷ bytes) rest = go (is_digit b) (same-behind bytes rest)
     go true e = rw (eq-eqb b b refl) e
     go false e = refl
 
-same_feed : (bytes : List ℕ) → same bytes (line_feed ∷ []) ≡ eqb (get_or bytes 0 0) line_feed && eqb (length bytes) 1
-unfolding same
-same_feed [] = refl
-same_feed (b ∷ []) = refl
-same_feed (b ∷ next ∷ bytes) =
-    ap (λ (t : Bool). eqb b line_feed && t) (sym (eqb-suc-suc (suc (length bytes)) 0 ∙ eqb-suc-zero (length bytes)))
+-- the part from a place on
+part : (bytes : List ℕ) (place : ℕ) → take (length bytes - place) (drop place bytes) ≡ drop place bytes
+part bytes place = take_all (length bytes - place) (drop place bytes) (omega (arith, length-drop place bytes))
 
-first-behind : (bytes : List ℕ) (place : ℕ) → get_or (drop place bytes) 0 0 ≡ get_or bytes place 0
-first-behind bytes place = get_or-drop place bytes 0 0 ∙ ap (λ (k : ℕ). get_or bytes k 0) (add-zero place)
-
--- only a line feed from a place on
-feed_at : (bytes : List ℕ) (end : ℕ) → same (drop end bytes) (line_feed ∷ []) ≡ eqb (get_or bytes end 0) line_feed && eqb (length bytes) (end + 1)
-feed_at bytes end =
-    same_feed (drop end bytes)
-    ∙ ap₂ ◌&&◌ (ap (λ (b : ℕ). eqb b line_feed) (first-behind bytes end))
-    (same_truth _ _ (λ e. omega (arith, eqb-true, eq-eqb, length-drop end bytes)) (λ e. omega (arith, eqb-true, eq-eqb, length-drop end bytes)))
-
--- the digits from a place on are some, and a line feed behind them ends the line
-number_places : (bytes : List ℕ) (from : ℕ) → let digits = leading_digits (drop from bytes) in
-    nonempty digits && same (drop from bytes) (digits ++ (line_feed ∷ [])) ≡ ends_number bytes from (from + length digits)
-number_places bytes from =
-    let count : ℕ = length (leading_digits (drop from bytes)) in
-    let counted : ltb 0 count ≡ ltb from (from + count) = same_truth _ _ (λ e. omega (arith, ltb-true, lt-ltb)) (λ e. omega (arith, ltb-true, lt-ltb)) in
-    ap₂ ◌&&◌ counted
-    (same-behind (drop from bytes) (line_feed ∷ [])
-    ∙ ap (λ (rest : List ℕ). same rest (line_feed ∷ [])) (drop-drop count from bytes)
-    ∙ feed_at bytes (from + count))
+-- some digits, and only a line feed behind them
+pub number_ends : (bytes : List ℕ) (end : ℕ) → end ≡ 0 + length (leading_digits bytes)
+    → is_number bytes ≡ ltb 0 end && pointwise eqb (take (length bytes - end) (drop end bytes)) (line_feed ∷ [])
+number_ends bytes end is =
+    let count : end ≡ length (leading_digits bytes) = omega (arith, is) in
+    rw (part bytes end, count)
+    (ap (λ (t : Bool). nonempty (leading_digits bytes) && t) (same-behind bytes (line_feed ∷ []) ∙ sym (equal_slices (drop (length (leading_digits bytes)) bytes) (line_feed ∷ []))))
 
 -- ---- a size line
 
-same-blank : (bytes rest : List ℕ) → same bytes (blank ∷ rest) ≡ eqb (get_or bytes 0 0) blank && same (drop 1 bytes) rest
+same-first : (b : ℕ) (bytes rest : List ℕ) → same bytes (b ∷ rest) ≡ pointwise eqb (take 1 bytes) (b ∷ []) && same (drop 1 bytes) rest
 unfolding same
-same-blank [] rest = refl
-same-blank (b ∷ bytes) rest = refl
-
-blank_at : (bytes rest : List ℕ) (place : ℕ) → same (drop place bytes) (blank ∷ rest) ≡ eqb (get_or bytes place 0) blank && same (drop (place + 1) bytes) rest
-blank_at bytes rest place =
-    same-blank (drop place bytes) rest
-    ∙ ap₂ (λ (b : ℕ) (behind : List ℕ). eqb b blank && same behind rest) (first-behind bytes place) (drop-drop 1 place bytes)
+same-first b [] rest = refl
+same-first b (x ∷ bytes) rest = go (eqb x b)
+  where
+    go : (t : Bool) → t && same bytes rest ≡ (t && true) && same bytes rest
+    go true = refl
+    go false = refl
 
 swapped : (p q r : Bool) → p && (q && r) ≡ q && (p && r)
 swapped true q r = refl
 swapped false true r = refl
 swapped false false r = refl
 
-size-counted : (bytes : List ℕ) → let first = length (row_digits bytes) in
-    is_size bytes ≡ ltb 0 first && (eqb (get_or bytes first 0) blank && ends_number bytes (first + 1) (first + 1 + length (column_digits bytes)))
-unfolding is_size
-size-counted bytes =
-    let first : ℕ = length (row_digits bytes) in
-    let second : List ℕ = column_digits bytes in
-    let last : List ℕ = second ++ (line_feed ∷ []) in
-    ap (λ (t : Bool). ltb 0 first && t)
-    (ap (λ (t : Bool). nonempty second && t) (same-behind bytes (blank ∷ last) ∙ blank_at bytes last first)
-    ∙ swapped (nonempty second) (eqb (get_or bytes first 0) blank) (same (drop (first + 1) bytes) last)
-    ∙ ap (λ (t : Bool). eqb (get_or bytes first 0) blank && t) (number_places bytes (first + 1)))
+module _ (bytes : List ℕ) (end : ℕ) (is : end ≡ 0 + length (row_digits bytes)) where
+  -- what stands behind the digits of m, and behind one byte more
+  abbrev rest : List ℕ
+  rest = take (length bytes - end) (drop end bytes)
 
--- the digits of m are some, a blank stands behind them, and those of n end the line
-pub size_places : (bytes : List ℕ) (place end : ℕ) → place ≡ 0 + length (row_digits bytes) → end ≡ place + 1 + length (leading_digits (drop (place + 1) bytes))
-    → is_size bytes ≡ ltb 0 place && (eqb (get_or bytes place 0) blank && ends_number bytes (place + 1) end)
-size_places bytes place end digits more =
-    let counted : place ≡ length (row_digits bytes) = omega arith in
-    rw (more, counted) (size-counted bytes)
+  pub behind_blank : drop 1 rest ≡ drop (length (row_digits bytes) + 1) bytes
+  behind_blank =
+      let count : end ≡ length (row_digits bytes) = omega (arith, is) in
+      ap (drop 1) (part bytes end) ∙ drop-drop 1 end bytes ∙ ap (λ (k : ℕ). drop (k + 1) bytes) count
+
+  -- the digits of m are some, a blank stands behind them, and n is a number to the line's end
+  pub size_ends : is_size bytes ≡ ltb 0 end && (pointwise eqb (take 1 rest) (blank ∷ []) && is_number (drop 1 rest))
+  unfolding is_size
+  size_ends =
+      let first : ℕ = length (row_digits bytes) in
+      let second : List ℕ = column_digits bytes in
+      let last : List ℕ = second ++ (line_feed ∷ []) in
+      let count : end ≡ length (row_digits bytes) = omega (arith, is) in
+      rw (behind_blank, part bytes end, count)
+      (ap (λ (t : Bool). nonempty (row_digits bytes) && t)
+      (ap (λ (t : Bool). nonempty second && t) (same-behind bytes (blank ∷ last) ∙ same-first blank (drop first bytes) last)
+      ∙ swapped (nonempty second) _ _
+      ∙ ap (λ (l : List ℕ). pointwise eqb (take 1 (drop first bytes)) (blank ∷ []) && (nonempty second && same l last)) (drop-drop 1 first bytes)))
 
 -- ---- an entry
 
--- what follows the optional minus begins within the line
-pub sign-within : (bytes : List ℕ) → cond (is_negative bytes) 1 0 ≤ length bytes
-sign-within [] = omega arith
-sign-within (b ∷ bytes) = go (eqb b minus_sign)
-  where
-    go : (t : Bool) → cond t 1 0 ≤ suc (length bytes)
-    go true = omega arith
-    go false = omega arith
+minus_first : (bytes : List ℕ) → pointwise eqb (minus_sign ∷ []) (take 1 bytes) ≡ is_negative bytes
+minus_first [] = refl
+minus_first (b ∷ bytes) = and-true (eqb minus_sign b) ∙ same_truth _ _ (λ e. omega (arith, eqb-true, eq-eqb)) (λ e. omega (arith, eqb-true, eq-eqb))
 
--- the digits end the line, and their value is in the range
-pub entry_places : (bytes : List ℕ) (from end : ℕ) → from ≡ cond (is_negative bytes) 1 0 → end ≡ from + length (leading_digits (drop from bytes))
-    → is_entry bytes ≡ ends_number bytes from end && leb (decimal_value (entry_digits bytes)) (cond (is_negative bytes) 32768 32767)
+counted : (t : Bool) → from_bool t ≡ cond t 1 0
+counted true = refl
+counted false = refl
+
+-- a minus stands first, and the part from the first byte on, or from the second, is what follows the optional minus
+module _ (bytes : List ℕ) (negative : Bool) (is : negative ≡ pointwise eqb (minus_sign ∷ []) (take 1 bytes)) where
+  pub by_minus : negative ≡ is_negative bytes
+  by_minus = is ∙ minus_first bytes
+
+  pub unsigned_part : (from : ℕ) → from ≡ from_bool negative → take (length bytes - from) (drop from bytes) ≡ unsigned bytes
+  unsigned_part from begins = part bytes from ∙ ap (λ (k : ℕ). drop k bytes) (begins ∙ ap from_bool by_minus ∙ counted (is_negative bytes))
+
+-- it is a number to the line's end, and its value is in the range
+pub entry_ends : (bytes : List ℕ) → is_entry bytes ≡ is_number (unsigned bytes) && leb (decimal_value (entry_digits bytes)) (cond (is_negative bytes) 32768 32767)
 unfolding is_entry
-entry_places bytes from end sign digits =
-    rw (digits, sign)
-    (sym (and_assoc (nonempty (entry_digits bytes)) _ _)
-    ∙ ap (λ (t : Bool). t && leb (decimal_value (entry_digits bytes)) (cond (is_negative bytes) 32768 32767)) (number_places bytes (cond (is_negative bytes) 1 0)))
+entry_ends bytes = sym (and_assoc (nonempty (entry_digits bytes)) _ _)
 
 -- ---- the word of an entry
 
-negative_word : (value : ℕ) → value ≤ 32768 → (65536 - value) % 65536 ≡ twos_complement (neg_ℤ (pos value))
-negative_word zero within = refl
-negative_word (suc value) within = omega arith
+negative_word : (value word : ℕ) → value ≤ 32768 → word < 65536 → (word + value) % 65536 ≡ 0 → word ≡ twos_complement (neg_ℤ (pos value))
+negative_word zero word within fits sum = omega (arith, sum)
+negative_word (suc value) word within fits sum = omega (arith, sum)
 
 module _ (bytes : List ℕ) where
   abbrev value : ℕ
@@ -136,9 +125,9 @@ module _ (bytes : List ℕ) where
   abbrev signed : Bool → ℕ
   signed t = twos_complement (cond t (neg_ℤ (pos value)) (pos value))
 
-  pub word_with_minus : is_negative bytes ≡ true → value ≤ 32768 → (65536 - value) % 65536 ≡ twos_complement (entry_value bytes)
+  pub word_with_minus : is_negative bytes ≡ true → (word : ℕ) → value ≤ 32768 → word < 65536 → (word + value) % 65536 ≡ 0 → word ≡ twos_complement (entry_value bytes)
   unfolding entry_value
-  word_with_minus e within = negative_word value within ∙ sym (ap signed e)
+  word_with_minus e word within fits sum = negative_word value word within fits sum ∙ sym (ap signed e)
 
   pub word_without_minus : is_negative bytes ≡ false → value ≡ twos_complement (entry_value bytes)
   unfolding entry_value

@@ -1,8 +1,9 @@
--- A line whose number ends at a place: how code tests the form of a size line and of an entry.
+-- A line that is a number to its end: how code tests the form of a size line and of an entry.
 -- Assumes nothing.
-use Rattle.std.specs.Prelude.{ℕ, ◌+◌, Bool, ◌&&◌, List, ltb, eqb, length, get_or}
+use Rattle.std.specs.Prelude.{ℕ, Bool, ◌&&◌, List, [], ◌∷◌, ◌++◌}
 use Rattle.market_rules.specs.Lines.{line_feed}
+use Rattle.market_rules.specs.Forms.{same, leading_digits, nonempty}
 
--- some bytes from one place to another, and behind them the line's last byte, its line feed
-abbrev pub ends_number : List ℕ → ℕ → ℕ → Bool
-ends_number bytes from end = ltb from end && (eqb (get_or bytes end 0) line_feed && eqb (length bytes) (end + 1))
+-- digits, some of them, and behind them the line's last byte, its line feed
+abbrev pub is_number : List ℕ → Bool
+is_number bytes = nonempty (leading_digits bytes) && same bytes (leading_digits bytes ++ (line_feed ∷ []))

@@ -9,7 +9,7 @@ use native.Mathlib.Omega.{arith}
 use lib.Dec.{eqb}
 use lib.ListN.{length, get_or, drop, length-drop, drop_of_length-le}
 use lib.Seq.{drop-cons, take-length}
-use borrow.Author.Tests.{ne_eqb, eq-eqb}
+use lib.Pointwise.{pointwise}
 use Rattle.byte_slices.specs.Search.{index_of, index_after, slice}
 use Rattle.text.specs.Decimal.{value_behind, decimal_value}
 use Rattle.market_rules.specs.Lines.{line_feed, before_lines, lines, line}
@@ -62,35 +62,13 @@ module _ (text : List ℕ) (place found : ℕ) (within : place ≤ length text) 
 
 -- ---- the same bytes
 
-pub other_lengths : (xs ys : List ℕ) → (length xs ≡ length ys → ⊥) → false ≡ same xs ys
+-- what `==` answers at slices of bytes
+pub equal_slices : (xs ys : List ℕ) → pointwise eqb xs ys ≡ same xs ys
 unfolding same
-other_lengths [] [] h = absurd (h refl)
-other_lengths [] (y ∷ ys) h = refl
-other_lengths (x ∷ xs) [] h = refl
-other_lengths (x ∷ xs) (y ∷ ys) h = go (eqb x y) (other_lengths xs ys (λ e. h (ap suc e)))
-  where
-    go : (t : Bool) → false ≡ same xs ys → false ≡ (t && same xs ys)
-    go true e = e
-    go false e = refl
-
--- from an index on, of two lists of one length
-module _ (xs ys : List ℕ) (i : ℕ) (one-length : length xs ≡ length ys) where
-  pub same_end : length xs ≤ i → true ≡ same (drop i xs) (drop i ys)
-  unfolding same
-  same_end h = sym (rw (drop_of_length-le xs {i = i} h, drop_of_length-le ys {i = i} (omega arith)))
-
-  module _ (more : i < length xs) where
-    same_here : same (drop i xs) (drop i ys) ≡ (eqb (get_or xs i 0) (get_or ys i 0) && same (drop (suc i) xs) (drop (suc i) ys))
-    unfolding same
-    same_here = rw (drop-cons xs i 0 more, drop-cons ys i 0 (omega arith))
-
-    pub same_next : get_or xs i 0 ≡ get_or ys i 0 → same (drop i xs) (drop i ys) ≡ same (drop (i + 1) xs) (drop (i + 1) ys)
-    same_next e =
-        let next : suc i ≡ i + 1 = omega arith in
-        same_here ∙ rw (eq-eqb (get_or xs i 0) (get_or ys i 0) e, next)
-
-    pub other_byte : (get_or xs i 0 ≡ get_or ys i 0 → ⊥) → false ≡ same (drop i xs) (drop i ys)
-    other_byte e = sym (same_here ∙ rw (ne_eqb (get_or xs i 0) (get_or ys i 0) e))
+equal_slices [] [] = refl
+equal_slices [] (y ∷ ys) = refl
+equal_slices (x ∷ xs) [] = refl
+equal_slices (x ∷ xs) (y ∷ ys) = ap (λ (t : Bool). eqb x y && t) (equal_slices xs ys)
 
 -- ---- digits
 
@@ -135,11 +113,10 @@ pub record DigitsFrom (bytes : List ℕ) (from end value : ℕ) : Type 0 where
 
 module _ (bytes : List ℕ) (from end value : ℕ) (read : DigitsFrom bytes from end value) where
   -- no digit is left
-  pub digits_stop : end ≤ length bytes → value ≤ 65535 → leading_digits (drop end bytes) ≡ []
-      → (end ≡ from + length (leading_digits (drop from bytes)))
-      × ((end ≤ length bytes) × (value ≡ min (decimal_value (leading_digits (drop from bytes))) 65535))
+  pub digits_stop : value ≤ 65535 → leading_digits (drop end bytes) ≡ []
+      → (end ≡ from + length (leading_digits (drop from bytes))) × (value ≡ min (decimal_value (leading_digits (drop from bytes))) 65535)
   unfolding value_behind
-  digits_stop within few none = (sym (read.ends ∙ rw none (omega arith)), (within, sym (read.says ∙ rw none (omega arith))))
+  digits_stop few none = (sym (read.ends ∙ rw none (omega arith)), sym (read.says ∙ rw none (omega arith)))
 
   -- one more
   pub digits_next : end < length bytes → is_digit (get_or bytes end 0) ≡ true

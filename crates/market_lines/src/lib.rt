@@ -4,11 +4,9 @@
 ghost use Rattle.std.specs.Prelude.{◌≡◌, ◌+◌, ◌≤◌, min, length, drop};
 ghost use Rattle.text.specs.Decimal.{decimal_value};
 ghost use Rattle.market_rules.specs.Lines.{line};
-ghost use Rattle.market_rules.specs.Forms.{same, is_comment, is_digit, leading_digits};
+ghost use Rattle.market_rules.specs.Forms.{is_comment, leading_digits};
 
-pub const LINE_FEED: u8 = 10;
-
-const PERCENT: u8 = 37;
+pub const LINE_FEED: u8 = b'\n';
 
 // Where the line ends that starts at a place: behind its line feed, or at the text's end where it has none.
 pub fn line_end(text: &[u8], place: usize) -> usize
@@ -17,45 +15,13 @@ pub fn line_end(text: &[u8], place: usize) -> usize
     ensures lower_bound { (place ≤ result) × (result ≤ length text.now) }
 {
     let found = byte_slices::find(text, place, text.len(), LINE_FEED);
-    if found < text.len() {
-        return found + 1;
-    }
-    found
-}
-
-pub fn same_bytes(xs: &[u8], ys: &[u8]) -> bool
-    ensures { result ≡ same xs.now ys.now }
-{
-    if xs.len() != ys.len() {
-        return false;
-    }
-    for i in 0..xs.len() {
-        if xs[i] != ys[i] {
-            return false;
-        }
-    }
-    true
+    if found < text.len() { found + 1 } else { found }
 }
 
 pub fn is_comment(line: &[u8]) -> bool
     ensures { result ≡ is_comment line.now }
 {
-    if line.len() == 0 {
-        return false;
-    }
-    if line[0] != PERCENT {
-        return false;
-    }
-    line[line.len() - 1] == LINE_FEED
-}
-
-fn is_digit(byte: u8) -> bool
-    ensures { result ≡ is_digit byte }
-{
-    if byte < 48 {
-        return false;
-    }
-    byte <= 57
+    matches!(line, [b'%', .., LINE_FEED])
 }
 
 // What digits say that follow one another, and where they end. A value above 65,535 is told as 65,535: no number of digits wraps.
@@ -71,18 +37,16 @@ pub fn read_digits(bytes: &[u8], from: usize) -> Digits
     ensures end_in_bounds { result.end ≤ length bytes.now }
     ensures value_value { result.value ≡ min (decimal_value (leading_digits (drop from bytes.now))) 65535 }
 {
-    let mut end = from;
     let mut value: u32 = 0;
-    while end < bytes.len() {
+    for end in from..bytes.len() {
         let byte = bytes[end];
-        if !is_digit(byte) {
+        if !byte.is_ascii_digit() {
             return Digits { end, value };
         }
-        value = 10 * value + (byte - 48) as u32;
-        if value > 65535 {
-            value = 65535;
-        }
-        end += 1;
+        value = (10 * value + (byte - b'0') as u32).min(65535);
     }
-    Digits { end, value }
+    Digits {
+        end: bytes.len(),
+        value,
+    }
 }

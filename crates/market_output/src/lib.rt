@@ -14,10 +14,11 @@ fn write_record(file: &[u8], output: &mut [u8]) -> usize
     ensures { Wrote output.old output.new result (market_output file.now) }
 {
     let answer = market::read_matrix_market(file, output);
-    if answer.refusal != 0 {
-        return text::write_refused(answer.refusal, answer.place, output);
+    // A number, since the documented call answers by `market_answer`.
+    match answer.refusal {
+        0 => answer.written,
+        refusal => text::write_refused(refusal, answer.place, output),
     }
-    answer.written
 }
 
 // Writes it at the start of the lent bytes and answers how long it is; nothing where they are too few for some record.
@@ -25,6 +26,7 @@ pub fn write_market(file: &[u8], output: &mut [u8]) -> usize
     ensures wrote { Wrote output.old output.new result (market_output_in (length output.old) file.now) }
     ensures prefix_length { PrefixLength result output.new }
 {
+    // A closure that asks for room would need the whole equation again as its contract, for one `if`.
     if output.len() < LONGEST_RECORD {
         return 0;
     }

@@ -4,26 +4,30 @@ use Prim.Native.Nat.{ℕ, zero, suc, ◌+◌, ◌*◌, ◌-◌, ◌≤◌, ◌<�
 use mathlib.Core.Path.{◌≡◌, refl, sym, ap, ap₂, ◌∙◌, subst}
 use mathlib.Core.Bool.{Bool, true, false, ◌&&◌}
 use mathlib.Core.List.{List, []}
+use mathlib.Core.Logic.{◌⊎◌, inl, inr}
 use native.Mathlib.Omega.{arith}
+use native.Mathlib.Nat.{mul-le-mul}
 use lib.Dec.{eqb}
 use lib.IntN.{ℤ, pos, negsuc}
 use lib.ListN.{length, get_or, drop, drop_of_length-le}
 use lib.Seq.{drop-cons}
 use borrow.Author.Tests.{eq-eqb, ne_eqb}
+use Rattle.limits.specs.Limits.{max_rows, max_columns, max_symbols}
+use Rattle.layout_rules.specs.declared.Head.{Head}
 use Rattle.layout_rules.specs.declared.Operation.{Operation}
 use Rattle.layout_rules.specs.declared.Output.{Output}
 use Rattle.layout_rules.specs.Matrix.{matrix_refusal, rows, columns, coefficient_place, matrix, coefficient_at, coefficients_from}
 use Rattle.layout_rules.specs.Records.{Netlist}
 use Rattle.layout_rules.specs.Places.{head_at, operation_at, output_at, operations_in, outputs_in}
 use Rattle.board_rules.specs.Machine.{output_form}
-use Rattle.layout_rules.proofs.MatrixRefusal.{AcceptedMatrix}
-use Rattle.layout_rules.proofs.MatrixRows.{matrix-row, coefficient_there}
+use Rattle.layout_rules.proofs.MatrixRefusal.{AcceptedMatrix, accepted-matrix}
+use Rattle.layout_rules.proofs.MatrixRows.{matrix-row, matrix-length, coefficient_there}
 use Rattle.layout_rules.proofs.FirstRecords.{length-first, get_d_first}
 use Rattle.board_rules.specs.Table.{each_column_from, output_row}
 use Rattle.netlist_rules.specs.declared.CheckAnswer.{CheckAnswer}
-use Rattle.netlist_rules.specs.declared.ReadAnswer.{ReadAnswer}
-use Rattle.netlist_rules.specs.Read.{Reading, refused, accepted, read_netlist, read_answer_of, read_answer}
+use Rattle.netlist_rules.specs.Read.{Reading, refused, accepted, read_netlist}
 use Rattle.netlist_rules.specs.Check.{checked, same_integer, same_row, rows_answer, match_answer, check_answer}
+use Rattle.netlist_rules.specs.Exact.{SameSize}
 use Rattle.netlist_read.specs.Tables.{NetlistHeld}
 use Rattle.netlist_check.specs.Compared.{RowReady}
 use Rattle.netlist_read.proofs.HeldLaws.{output-row-held, output_coefficient_small}
@@ -117,6 +121,59 @@ module _ (b m : List ℕ) (forms : List ℤ) (H : NetlistHeld b forms) (i : ℕ)
     small = output_coefficient_small b (head_at b).width (head_at b).n (head_at b).operations (head-limits b H.read).width forms H.forms-held (output_at b (head_at b).operations i) (output-there b H.read i h).1.operand;
   }
 
+-- the same of a netlist's head and its output as they were read
+module _ (b m : List ℕ) (forms : List ℤ) (H : NetlistHeld b forms) (due : matrix_refusal m ≡ 0) (h : Head) (is : h ≡ head_at b) (S : SameSize m h)
+  where
+    module _ (i : ℕ) (inside : i < h.m) {n : ℕ} {o : Output} (counted : n ≡ h.n) (read : o ≡ output_at b h.operations i) where
+      among : i < (head_at b).m
+      among = subst (λ (x : Head). i < x.m) is inside
+
+      row : i < rows m
+      row = omega (arith, S.same_rows)
+
+      n-is : n ≡ (head_at b).n
+      n-is = counted ∙ ap (λ (x : Head). x.n) is
+
+      same : columns m ≡ (head_at b).n
+      same = S.same-columns ∙ ap (λ (x : Head). x.n) is
+
+      o-is : o ≡ output_at b (head_at b).operations i
+      o-is = read ∙ ap (λ (x : Head). output_at b x.operations i) is
+
+      pub row_asked : (n ≤ max_columns) × ((i * n ≤ max_rows * max_columns) × (o.symbol < max_symbols))
+      row_asked =
+          let L = head-limits b H.read in
+          let few : n ≤ max_columns = omega (arith, n-is, L.limits.columns-most) in
+          let below : i ≤ max_rows = omega (arith, among, L.limits.rows-most) in
+          let operand : o.symbol < (head_at b).n + (head_at b).operations = rw o-is (output-there b H.read i among).1.operand.symbol in
+          (few, (mul-le-mul below few, omega (arith, operand, L.limits.columns-most, L.few)))
+
+      pub read_row-ready : RowReady m (i * n) n forms o
+      read_row-ready = rw (o-is, n-is) (row_ready b m forms H i among (accepted-matrix m due) row same)
+
+      abbrev left : ℕ → CheckAnswer
+      left j = rows_answer (head_at b).n (operations_in b) j (drop j (outputs_in b)) (drop j (matrix m))
+
+      compared : same_row (output_form (head_at b).n (operations_in b) (get_or (outputs_in b) i (output_at b 0 0))) (get_or (matrix m) i []) ≡ same_row (output_row forms n o) (coefficients_from m (i * n) n)
+      compared = rw (o-is, n-is) (sym (row_compared b m forms H i among row same))
+
+      output-among : i < length (outputs_in b)
+      output-among = omega (arith, among, length-first (output_at b (length (operations_in b))) (head_at b).m)
+
+      row-among : i < length (matrix m)
+      row-among = omega (arith, row, matrix-length m)
+
+      pub read_row-differs : false ≡ same_row (output_row forms n o) (coefficients_from m (i * n) n) → checked 14 i ≡ left i
+      read_row-differs e = sym (row-differs (head_at b).n (operations_in b) (outputs_in b) (matrix m) (output_at b 0 0) i output-among row-among (compared ∙ sym e))
+
+      pub read_row-same : true ≡ same_row (output_row forms n o) (coefficients_from m (i * n) n) → left (suc i) ≡ left i
+      read_row-same e = sym (row_same (head_at b).n (operations_in b) (outputs_in b) (matrix m) (output_at b 0 0) i output-among row-among (compared ∙ sym e))
+
+    pub read_rows-end : (i : ℕ) → h.m ≤ i → checked 0 0 ≡ rows_answer (head_at b).n (operations_in b) i (drop i (outputs_in b)) (drop i (matrix m))
+    read_rows-end i l =
+        sym (rows_end (head_at b).n (operations_in b) (outputs_in b) (matrix m) (output_at b 0 0) i
+        (omega (arith, length-first (output_at b (length (operations_in b))) (head_at b).m, ap (λ (x : Head). x.m) is)))
+
 -- ---- the answer
 
 abbrev after_netlist : List ℕ → Reading Netlist → CheckAnswer
@@ -144,14 +201,8 @@ module _ (m b : List ℕ) where
     behind-matrix : after_netlist m (read_netlist b) ≡ check_answer m b
     behind-matrix = ap (λ (r : ℕ). after_matrix r (after_netlist m (read_netlist b))) (sym due) ∙ by_parts
 
-    refuses : (x : Reading Netlist) (a : ReadAnswer) → a ≡ read_answer_of x → (a.refusal ≡ 0 → ⊥)
-        → checked a.refusal a.place ≡ after_netlist m x
-    refuses (refused r p) a e h = rw e refl
-    refuses (accepted net) a e h = absurd (h (ap (λ (t : ReadAnswer). t.refusal) e))
-
-    pub netlist_declines : (a : ReadAnswer) → a ≡ read_answer b → (a.refusal ≡ 0 → ⊥) → checked a.refusal a.place ≡ check_answer m b
-    unfolding read_answer
-    netlist_declines a e h = refuses (read_netlist b) a e h ∙ behind-matrix
+    pub netlist_declines : {r place : ℕ} → read_netlist b ≡ refused r place → checked r place ≡ check_answer m b
+    netlist_declines e = sym (ap (after_netlist m) e) ∙ behind-matrix
 
     module _ (net : Netlist) (reads : read_netlist b ≡ accepted net) where
       sizes : (t : Bool) → (eqb (rows m) net.head.m && eqb (columns m) net.head.n) ≡ t
@@ -161,11 +212,9 @@ module _ (m b : List ℕ) where
           ap (after_sizes (rows_answer net.head.n net.operations 0 net.outputs (matrix m))) (sym e)
           ∙ ap (after_netlist m) (sym reads) ∙ behind-matrix
 
-      pub rows-differ : (rows m ≡ net.head.m → ⊥) → checked 13 0 ≡ check_answer m b
-      rows-differ h = sizes false (ap (λ t. t && eqb (columns m) net.head.n) (ne_eqb (rows m) net.head.m h))
-
-      pub columns-differ : rows m ≡ net.head.m → (columns m ≡ net.head.n → ⊥) → checked 13 0 ≡ check_answer m b
-      columns-differ e h = sizes false (ap₂ ◌&&◌ (eq-eqb (rows m) net.head.m e) (ne_eqb (columns m) net.head.n h))
+      pub sizes-differ : ((rows m ≡ net.head.m → ⊥) ⊎ ((rows m ≡ net.head.m) × (columns m ≡ net.head.n → ⊥))) → checked 13 0 ≡ check_answer m b
+      sizes-differ (inl h) = sizes false (ap (λ t. t && eqb (columns m) net.head.n) (ne_eqb (rows m) net.head.m h))
+      sizes-differ (inr h) = sizes false (ap₂ ◌&&◌ (eq-eqb (rows m) net.head.m h.0) (ne_eqb (columns m) net.head.n h.1))
 
       pub sizes_agree : rows m ≡ net.head.m → columns m ≡ net.head.n
           → rows_answer net.head.n net.operations 0 net.outputs (matrix m) ≡ check_answer m b

@@ -1,21 +1,12 @@
 -- Checking a netlist: what is asked where a row of the matrix is compared with an output, and what comparing all of them answers.
 -- Assumes nothing.
-use Rattle.std.specs.Prelude.{ℕ, ◌+◌, ◌<◌, ◌≡◌, List, ℤ, length}
-use Rattle.layout_rules.specs.declared.Head.{Head}
+use Rattle.std.specs.Prelude.{ℕ, ◌+◌, ◌<◌, List, ℤ, length}
 use Rattle.layout_rules.specs.declared.Output.{Output}
-use Rattle.layout_rules.specs.Matrix.{rows, columns, coefficient_place, matrix}
+use Rattle.layout_rules.specs.Matrix.{coefficient_place, matrix}
 use Rattle.layout_rules.specs.Places.{head_at, operations_in, outputs_in}
 use Rattle.board_rules.specs.Table.{Small, table_coefficient}
 use Rattle.netlist_rules.specs.declared.CheckAnswer.{CheckAnswer}
 use Rattle.netlist_rules.specs.Check.{rows_answer}
-
--- the sizes of the netlist in the bytes are those of the matrix
-pub record SameSizes (matrix_bytes : List ℕ) (h : Head) (m n operations : ℕ) : Type 0 where
-  pub rows-read : m ≡ h.m
-  pub columns-read : n ≡ h.n
-  pub operations-read : operations ≡ h.operations
-  pub same_rows : rows matrix_bytes ≡ m
-  pub same-columns : columns matrix_bytes ≡ n
 
 -- the coefficients of a matrix's row that begins at an index are there, and those of an output's entry are so small that none wraps
 pub record RowReady (matrix_bytes : List ℕ) (index n : ℕ) (forms : List ℤ) (o : Output) : Type 0 where

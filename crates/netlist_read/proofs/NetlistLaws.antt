@@ -1,31 +1,26 @@
 -- The whole netlist: which refusal and which place read returns, part by part, and what stands in the bytes where it accepts.
 -- Assumes nothing.
 use Prim.Native.Nat.{ℕ, zero, suc, ◌+◌, ◌≤◌, ◌<◌}
-use mathlib.Core.Path.{◌≡◌, refl, sym, ap, ap₂, ◌∙◌}
+use mathlib.Core.Path.{◌≡◌, refl, sym, ap, ap₂, ◌∙◌, subst}
 use mathlib.Core.Bool.{Bool, true, false}
 use mathlib.Core.List.{List}
 use native.Mathlib.Omega.{arith}
+use lib.IntN.{ℤ}
 use lib.ListN.{length}
 use borrow.Author.Tests.{lt-ltb, le-ltb}
 use Rattle.layout_rules.specs.declared.Head.{Head}
 use Rattle.layout_rules.specs.declared.Totals.{Totals}
 use Rattle.layout_rules.specs.Records.{Netlist, operation_length, output_length, totals_length}
-use Rattle.layout_rules.specs.Places.{operation_place, output_place, totals_place, head_length_in, head_at, operation_at, output_at, totals_at, first_records, first_outputs, operations_in, outputs_in, totals_place_in, netlist_in}
+use Rattle.layout_rules.specs.Places.{operation_place, output_place, totals_place, head_length_in, head_at, operation_at, output_at, totals_at, first_records, first_operations, first_outputs, operations_in, outputs_in, totals_place_in, netlist_in}
 use Rattle.layout_rules.proofs.FirstRecords.{length-first}
 use Rattle.layout_rules.proofs.InBytes.{length-due}
 use Rattle.board_rules.specs.Netlist.{HeadLimits, OperationLimits, OutputLimits}
-use Rattle.netlist_read.specs.declared.Refusal.{Refusal}
-use Rattle.netlist_rules.specs.declared.ReadAnswer.{ReadAnswer}
-use Rattle.netlist_rules.specs.Read.{Reading, refused, accepted, head_refusal, operation_refusal, output_refusal, totals_refusal, read_operations, read_outputs, leftover_refusal, read_netlist, read_refused, read_accepted, read_answer_of, read_answer, sample_width_of, sample_width_answer}
+use Rattle.netlist_rules.specs.Read.{refused, accepted, head_refusal, operation_refusal, output_refusal, totals_refusal, read_operations, read_outputs, leftover_refusal, read_netlist, read_refused, read_accepted, read_answer_of, read_answer, sample_width_of, sample_width_answer}
 use Rattle.netlist_rules.specs.Exact.{read_limits}
-use Rattle.netlist_read.specs.Tables.{refusal_of, NetlistRead}
+use Rattle.netlist_read.specs.Tables.{FormsHeld, NetlistRead, NetlistHeld}
 use Rattle.netlist_tests.proofs.RecordLaws.{head-due, operation-due, output-due, none-refused}
 
 -- ---- which part is refused
-
--- the answer where a record is refused
-pub stop_answer : {A : Type 0} (x : Reading A) (r s p : ℕ) → r ≡ s → x ≡ refused s p → ◌≡◌ {A = Refusal} record { refusal = r; place = p } (refusal_of x)
-stop_answer x r s p e d = rw (d, e) refl
 
 abbrev leftover_of : Bool → ℕ
 leftover_of t = elim t [ true ↦ 12 | false ↦ 0 ]
@@ -35,12 +30,6 @@ some_left b place h = ap leftover_of (lt-ltb place (length b) h)
 
 none_left : (b : List ℕ) (place : ℕ) → length b ≤ place → leftover_refusal b place ≡ 0
 none_left b place h = ap leftover_of (le-ltb place (length b) h)
-
--- what follows a part that is refused is refused likewise
-pub declined : {A B : Type 0} (x : Reading A) (y : Reading B) (r : Refusal) → r ≡ refusal_of x → (r.refusal ≡ 0 → ⊥)
-    → ((s p : ℕ) → x ≡ refused s p → y ≡ refused s p) → r ≡ refusal_of y
-declined (refused s p) y r e h f = e ∙ sym (ap refusal_of (f s p refl))
-declined (accepted x) y r e h f = absurd (h (ap (λ (t : Refusal). t.refusal) e))
 
 module _ (b : List ℕ) where
   pub head_declines : (head_refusal b ≡ 0 → ⊥) → read_netlist b ≡ refused (head_refusal b) 0
@@ -87,20 +76,64 @@ module _ (b : List ℕ) where
   pub place_is : (start : ℕ) (h : Head) → start ≡ head_length_in b → h ≡ head_at b → totals_place start h.operations h.m ≡ totals_place_in b
   place_is start h d e = ap₂ (λ (k : ℕ) (x : Head). totals_place k x.operations x.m) d e ∙ sym totals-place
 
+  -- ---- the same of a head that was read
+
+  module _ (due : head_refusal b ≡ 0) (h : Head) (is : h ≡ head_at b) where
+    pub operations-refused : {r p : ℕ} → read_operations b h ≡ refused r p → read_netlist b ≡ refused r p
+    operations-refused e = operations_decline due _ _ (ap (read_operations b) (sym is) ∙ e)
+
+    module _ (os : read_operations b h ≡ accepted (first_operations b h.operations)) where
+      pub operations-accepted : read_operations b (head_at b) ≡ accepted (operations_in b)
+      operations-accepted = subst (λ (x : Head). read_operations b x ≡ accepted (first_operations b x.operations)) is os
+
+      pub outputs-refused : {r p : ℕ} → read_outputs b h (first_operations b h.operations) ≡ refused r p → read_netlist b ≡ refused r p
+      outputs-refused e = outputs_decline due operations-accepted _ _ (ap (λ (x : Head). read_outputs b x (first_operations b x.operations)) (sym is) ∙ e)
+
+      module _ (us : read_outputs b h (first_operations b h.operations) ≡ accepted (first_outputs b (length (first_operations b h.operations)) h.m)) where
+        pub outputs-accepted : read_outputs b (head_at b) (operations_in b) ≡ accepted (outputs_in b)
+        outputs-accepted = subst (λ (x : Head). read_outputs b x (first_operations b x.operations) ≡ accepted (first_outputs b (length (first_operations b x.operations)) x.m)) is us
+
+        module _ (start place : ℕ) (behind : start ≡ head_length_in b) (at : place ≡ totals_place start h.operations h.m) where
+          pub totals-at : place ≡ totals_place_in b
+          totals-at = at ∙ place_is start h behind is
+
+          pub totals-number : {r : ℕ} → r ≡ totals_refusal b place h (first_operations b h.operations) → r ≡ totals_refusal b (totals_place_in b) (head_at b) (operations_in b)
+          totals-number e = e ∙ ap₂ (λ (p : ℕ) (x : Head). totals_refusal b p x (first_operations b x.operations)) totals-at is
+
+          pub totals-refused : {r : ℕ} → r ≡ totals_refusal b place h (first_operations b h.operations) → (r ≡ 0 → ⊥) → read_netlist b ≡ refused r place
+          totals-refused e z =
+              let n = totals-number e in
+              totals_decline due operations-accepted outputs-accepted (λ d. z (n ∙ d)) ∙ ap₂ refused (sym n) (sym totals-at)
+
+          module _ (right : 0 ≡ totals_refusal b place h (first_operations b h.operations)) where
+            pub leftover-refused : {end : ℕ} → end ≡ place + totals_length → end < length b → read_netlist b ≡ refused 12 end
+            leftover-refused e l = leftover due operations-accepted outputs-accepted (sym (totals-number right)) (omega (arith, totals-at)) ∙ ap (refused 12) (omega (arith, totals-at))
+
+            module _ {forms : List ℤ} (H : FormsHeld b h.width h.n h.operations forms) (l : length b ≤ place + totals_length) where
+              pub netlist-held : NetlistHeld b forms
+              netlist-held =
+                  let held : FormsHeld b (head_at b).width (head_at b).n (head_at b).operations forms = subst (λ (x : Head). FormsHeld b x.width x.n x.operations forms) is H in
+                  record {
+                    read = record {
+                      head-due = due;
+                      operations-read = operations-accepted;
+                      outputs-read = outputs-accepted;
+                      totals-due = sym (totals-number right);
+                      netlist-read = all-accepted due operations-accepted outputs-accepted (sym (totals-number right)) (omega (arith, totals-at));
+                      narrow = held.narrow;
+                    };
+                    forms-held = held;
+                  }
+
   -- ---- the answer
 
   pub answer-fields : (h : Head) (t : Totals) → h ≡ head_at b → t ≡ totals_at b (totals_place_in b)
       → record { refusal = 0; place = 0; m = h.m; n = h.n; operations = h.operations; depth = t.depth } ≡ read_accepted (netlist_in b)
   answer-fields h t e f = rw (e, f) refl
 
-  by_refusal : (x : Reading Netlist) (r : Refusal) → r ≡ refusal_of x → (r.refusal ≡ 0 → ⊥)
-      → read_refused r.refusal r.place ≡ read_answer_of x
-  by_refusal (refused s p) r e h = rw e refl
-  by_refusal (accepted net) r e h = absurd (h (ap (λ (t : Refusal). t.refusal) e))
-
-  pub answer-refused : (r : Refusal) → r ≡ refusal_of (read_netlist b) → (r.refusal ≡ 0 → ⊥) → read_refused r.refusal r.place ≡ read_answer b
+  pub answer-refused : (r place : ℕ) → read_netlist b ≡ refused r place → read_refused r place ≡ read_answer b
   unfolding read_answer
-  answer-refused r e h = by_refusal (read_netlist b) r e h
+  answer-refused r place e = sym (ap read_answer_of e)
 
   pub answer-accepted : (net : Netlist) → read_netlist b ≡ accepted net → read_accepted net ≡ read_answer b
   unfolding read_answer
@@ -108,13 +141,9 @@ module _ (b : List ℕ) where
 
   -- ---- the sample width
 
-  pub width-refused : (a : ReadAnswer) → a ≡ read_answer b → (a.refusal ≡ 0 → ⊥) → record { refusal = a.refusal; place = a.place; width = 0 } ≡ sample_width_answer b
-  unfolding read_answer sample_width_answer
-  width-refused a e h = go (read_netlist b) e
-    where
-      go : (x : Reading Netlist) → a ≡ read_answer_of x → record { refusal = a.refusal; place = a.place; width = 0 } ≡ sample_width_of x
-      go (refused r p) d = ap (λ (y : ReadAnswer). record { refusal = y.refusal; place = y.place; width = 0 }) d
-      go (accepted net) d = absurd (h (ap (λ (y : ReadAnswer). y.refusal) d))
+  pub width-refused : (r place : ℕ) → read_netlist b ≡ refused r place → record { refusal = r; place = place; width = 0 } ≡ sample_width_answer b
+  unfolding sample_width_answer
+  width-refused r place e = sym (ap sample_width_of e)
 
   pub width-accepted : (h : Head) → h ≡ head_at b → read_netlist b ≡ accepted (netlist_in b) → record { refusal = 0; place = 0; width = h.width } ≡ sample_width_answer b
   unfolding sample_width_answer

@@ -13,23 +13,29 @@ use lib.Signed.{◌≤ℤ◌, ◌<ℤ◌}
 use borrow.Author.Tests.{leb-true, le-leb, ltb-true, lt-ltb, eq-eqb, ne_eqb}
 use Rattle.integers.proofs.Expression.{nat, below_parts}
 use Rattle.integers.proofs.Truth.{same_truth}
-use Rattle.limits.specs.Limits.{max_shift, max_width, max_symbols}
+use Rattle.limits.specs.Limits.{max_columns, max_shift, max_width, max_symbols}
+use Rattle.limits.specs.Size.{SampleWidth}
+use Rattle.layout_rules.specs.declared.Head.{Head}
+use Rattle.layout_rules.specs.declared.Operation.{Operation}
+use Rattle.layout_rules.specs.declared.Output.{Output}
 use Rattle.layout_rules.specs.Records.{Netlist}
-use Rattle.layout_rules.specs.Places.{head_at, operation_at, output_at, first_records, first_operations, operations_in, outputs_in}
+use Rattle.layout_rules.specs.Places.{head_at, operation_at, output_at, first_records, first_operations, operations_in, outputs_in, netlist_in}
 use Rattle.layout_rules.proofs.FirstRecords.{length-first, get_d_first}
 use Rattle.board_rules.specs.Machine.{entry_at, operation_value, machine, output_value, entry_form}
+use Rattle.board_rules.specs.Netlist.{OperationLimits, OutputOperand}
 use Rattle.board_rules.specs.Width.{Samples, positive_part, negative_part, width}
 use Rattle.board_rules.specs.Table.{Small, value_appended}
 use Rattle.board_rules.proofs.MachineLaws.{output-same}
 use Rattle.board_rules.proofs.FormLaws.{entry_form_keeps}
 use Rattle.board_rules.proofs.BoundLaws.{widest-shifted, entry_small}
 use Rattle.board_rules.proofs.TableLaws.{value_appended_lem}
-use Rattle.netlist_rules.specs.declared.ReadAnswer.{ReadAnswer}
 use Rattle.netlist_rules.specs.declared.RunAnswer.{RunAnswer}
-use Rattle.netlist_rules.specs.Read.{Reading, refused, accepted, read_netlist, read_answer_of, read_answer}
+use Rattle.netlist_rules.specs.Read.{Reading, refused, accepted, read_netlist}
 use Rattle.netlist_rules.specs.Run.{ran, fits, fit_answer, samples_answer, run_answer, netlist_outputs, run_outputs}
-use Rattle.netlist_rules.proofs.RunLaws.{fit-accepts, answer-read, outputs-kept, outputs-filled}
+use Rattle.netlist_rules.proofs.RunLaws.{fit-accepts, fit-samples-only, answer-read, outputs-kept, outputs-filled}
+use Rattle.netlist_rules.specs.Exact.{read_limits}
 use Rattle.netlist_read.specs.Tables.{NetlistRead}
+use Rattle.netlist_run.specs.Board.{BoardReady}
 use Rattle.netlist_read.proofs.NetlistLaws.{head-limits, operation-there, output-there}
 
 -- ---- values
@@ -135,6 +141,56 @@ module _ (b : List ℕ) (N : NetlistRead b) where
       kept : (symbol : ℕ) → symbol < (head_at b).n + (head_at b).operations → entry_at values symbol ≡ entry_at entries symbol
       kept symbol h = sym (get_or-take ((head_at b).n + (head_at b).operations) values symbol (pos 0) h) ∙ ap (λ v. entry_at v symbol) e
 
+-- the same of a netlist's head, its operations and its outputs as they were read
+module _ (b : List ℕ) (N : NetlistRead b) (h : Head) (is : h ≡ head_at b) where
+  n-is : h.n ≡ (head_at b).n
+  n-is = ap (λ (x : Head). x.n) is
+
+  pub symbols-most : h.n + h.operations ≤ max_symbols
+  symbols-most = let L = head-limits b N in omega (arith, n-is, ap (λ (x : Head). x.operations) is, L.limits.columns-most, L.few)
+
+  module _ (k : ℕ) (inside : k < h.operations) {o : Operation} (read : o ≡ operation_at b k) where
+    among : k < (head_at b).operations
+    among = omega (arith, ap (λ (x : Head). x.operations) is)
+
+    pub operation-held : OperationLimits (read_limits (head_at b).width) (h.n + k) o
+    operation-held = rw (read, n-is) (operation-there b N k among).1
+
+    module _ (xs values : List ℤ) (B : BoardAt b h.n k xs values) where
+      pub operands-small : Small (entry_at values o.a) o.sa × Small (entry_at values o.b) o.sb
+      operands-small =
+          let L = operation-held in (
+            board_small b N h.n n-is xs k values B (omega (arith, among)) o.a o.sa L.first_earlier (omega (arith, L.first-shift)),
+            board_small b N h.n n-is xs k values B (omega (arith, among)) o.b o.sb L.second_earlier (omega (arith, L.second-shift)),
+          )
+
+      pub board-appended : {new : List ℤ} → new ≡ value_appended values o (h.n + k) → BoardAt b h.n (suc k) xs new
+      board-appended e = rw (e ∙ ap (λ (x : Operation). value_appended values x (h.n + k)) read) (board_next b N h.n n-is xs k values B among)
+
+  pub board-end : (k : ℕ) → k ≡ h.operations → (xs values : List ℤ) → BoardAt b h.n k xs values
+      → (length values ≡ max_symbols) × (take (h.n + h.operations) values ≡ machine xs (operations_in b))
+  board-end k e xs values B =
+      (B.room, ap (λ (j : ℕ). take (h.n + j) values) (sym e) ∙ B.held ∙ ap (λ (j : ℕ). machine xs (first_operations b j)) (e ∙ ap (λ (x : Head). x.operations) is))
+
+  module _ (i : ℕ) (inside : i < h.m) {o : Output} (read : o ≡ output_at b h.operations i) where
+    due : i < (head_at b).m
+    due = omega (arith, ap (λ (x : Head). x.m) is)
+
+    o-is : o ≡ output_at b (head_at b).operations i
+    o-is = read ∙ ap (λ (x : Head). output_at b x.operations i) is
+
+    pub output-held : OutputOperand (read_limits (head_at b).width) (h.n + h.operations) o
+    output-held = rw o-is (subst (λ (x : Head). OutputOperand (read_limits (head_at b).width) (x.n + x.operations) (output_at b (head_at b).operations i)) (sym is) (output-there b N i due).1.operand)
+
+    pub entry-small : (values : List ℤ) → BoardReady b values → Small (entry_at values o.symbol) o.shift
+    entry-small values R = R.small o.symbol o.shift (omega (arith, output-held.symbol, n-is, ap (λ (x : Head). x.operations) is)) (omega (arith, output-held.shift))
+
+    pub result_read : (values : List ℤ) → output_value values o ≡ get_or (map (output_value values) (outputs_in b)) i (output_value values (output_at b 0 0))
+    result_read values = ap (output_value values) o-is ∙ result_at b N values i due
+
+  pub results-read : (values : List ℤ) → length (map (output_value values) (outputs_in b)) ≡ h.m
+  results-read values = results_count b N values ∙ sym (ap (λ (x : Head). x.m) is)
+
 -- ---- numbers written one after another, over a whole list
 
 pub set_next : (vs l : List ℤ) (j : ℕ) (v d : ℤ) → j < length vs → v ≡ get_or vs j d → sets (set l j v) (suc j) (drop (suc j) vs) ≡ sets l j (drop j vs)
@@ -197,15 +253,10 @@ abbrev counted : RunAnswer → Bool → Bool → RunAnswer
 counted fit s t = elim s [ false ↦ ran 15 0 | true ↦ elim t [ false ↦ ran 16 0 | true ↦ fit ] ]
 
 module _ (b : List ℕ) (samples outputs : List ℤ) where
-  refuses : (x : Reading Netlist) (a : ReadAnswer) → a ≡ read_answer_of x → (a.refusal ≡ 0 → ⊥)
-      → (ran a.refusal a.place ≡ after_netlist samples (length outputs) x) × (outputs ≡ outputs_after samples outputs x)
-  refuses (refused r p) a e h = (rw e refl, refl)
-  refuses (accepted net) a e h = absurd (h (ap (λ (t : ReadAnswer). t.refusal) e))
-
-  pub run_declines : (a : ReadAnswer) → a ≡ read_answer b → (a.refusal ≡ 0 → ⊥)
-      → (ran a.refusal a.place ≡ run_answer b samples (length outputs)) × (outputs ≡ run_outputs b samples outputs)
-  unfolding read_answer run_answer run_outputs
-  run_declines a e h = refuses (read_netlist b) a e h
+  pub run_declines : {r place : ℕ} → read_netlist b ≡ refused r place
+      → (ran r place ≡ run_answer b samples (length outputs)) × (outputs ≡ run_outputs b samples outputs)
+  unfolding run_answer run_outputs
+  run_declines e = (sym (ap (after_netlist samples (length outputs)) e), sym (ap (outputs_after samples outputs) e))
 
   module _ (net : Netlist) (reads : read_netlist b ≡ accepted net) where
     -- what the samples and the outputs lent are answered with, is run's answer
@@ -244,3 +295,49 @@ module _ (b : List ℕ) (samples outputs : List ℤ) where
               accepts ∙ sym (answer-read b samples outputs net reads),
               sym (outputs-filled b samples outputs net reads (ap (λ (a : RunAnswer). a.refusal) (sym accepts))),
             )
+
+-- ---- the answer of a netlist, of its head and of samples as they were read
+
+module _ (b : List ℕ) (N : NetlistRead b) (h : Head) (is : h ≡ head_at b) (samples outputs : List ℤ) where
+  columns-are : h.n ≡ (head_at b).n
+  columns-are = ap (λ (x : Head). x.n) is
+
+  rows-are : h.m ≡ (head_at b).m
+  rows-are = ap (λ (x : Head). x.m) is
+
+  pub width-right : SampleWidth h.width
+  width-right = subst (λ (x : Head). SampleWidth x.width) (sym is) (head-limits b N).width
+
+  pub columns-few : h.n ≤ max_columns
+  columns-few = omega (arith, columns-are, (head-limits b N).limits.columns-most)
+
+  pub sample-count-refused : (length samples ≡ h.n → ⊥) → (ran 15 0 ≡ run_answer b samples (length outputs)) × (outputs ≡ run_outputs b samples outputs)
+  sample-count-refused z = samples-differ b samples outputs (netlist_in b) N.netlist-read (λ e. z (e ∙ sym columns-are))
+
+  module _ (count : length samples ≡ h.n) where
+    pub output-count-refused : (length outputs ≡ h.m → ⊥) → (ran 16 0 ≡ run_answer b samples (length outputs)) × (outputs ≡ run_outputs b samples outputs)
+    output-count-refused z = outputs-differ b samples outputs (netlist_in b) N.netlist-read (count ∙ columns-are) (λ e. z (e ∙ sym rows-are))
+
+    pub samples-of_width : ran 0 0 ≡ fit_answer h.width 0 samples → Samples h.width h.n samples
+    samples-of_width e = fit-samples-only count (sym (ap (λ (a : RunAnswer). a.refusal) e))
+
+    module _ (lent : length outputs ≡ h.m) where
+      pub samples-refused : (r place : ℕ) → (r ≡ 0 → ⊥) → ran r place ≡ fit_answer h.width 0 samples
+          → (ran r place ≡ run_answer b samples (length outputs)) × (outputs ≡ run_outputs b samples outputs)
+      samples-refused r place z e = samples-outside b samples outputs (netlist_in b) N.netlist-read (count ∙ columns-are) (lent ∙ rows-are) (ran r place)
+          (e ∙ ap (λ (x : Head). fit_answer x.width 0 samples) is) z
+
+      module _ (X : Samples h.width h.n samples) (values : List ℤ) (T : take (h.n + h.operations) values ≡ machine samples (operations_in b)) where
+        at-width : Samples (head_at b).width (head_at b).n samples
+        at-width = subst (λ (x : Head). Samples x.width x.n samples) is X
+
+        entries : take ((head_at b).n + (head_at b).operations) values ≡ machine samples (operations_in b)
+        entries = subst (λ (x : Head). take (x.n + x.operations) values ≡ machine samples (operations_in b)) is T
+
+        pub board-ready : length values ≡ max_symbols → BoardReady b values
+        board-ready room = record { room = room; small = value-small b N samples at-width (head_at b).operations values entries (omega arith) }
+
+        pub run-accepted : (ran 0 0 ≡ run_answer b samples (length outputs)) × (map (output_value values) (outputs_in b) ≡ run_outputs b samples outputs)
+        run-accepted =
+            let fit = samples-fit b samples outputs (netlist_in b) N.netlist-read (count ∙ columns-are) (lent ∙ rows-are) at-width in
+            (fit.0, outputs-same b N (machine samples (operations_in b)) values entries ∙ fit.1)

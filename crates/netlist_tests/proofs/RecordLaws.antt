@@ -9,16 +9,14 @@ use native.Mathlib.Omega.{arith}
 use native.Mathlib.Decide.{dec_lt}
 use lib.Dec.{eqb, leb}
 use lib.ListN.{length}
-use borrow.Author.Tests.{eq-eqb, ne_eqb}
 use Rattle.limits.specs.Limits.{max_width}
 use Rattle.layout_rules.specs.declared.Head.{Head}
 use Rattle.layout_rules.specs.declared.Operation.{Operation}
-use Rattle.layout_rules.specs.declared.StepNumbers.{StepNumbers}
 use Rattle.layout_rules.specs.Bytes.{word}
 use Rattle.layout_rules.specs.Records.{head_length_of, operation_kind, operation_length, output_kind, output_length, totals_kind, totals_length}
 use Rattle.layout_rules.specs.Places.{operation_place, output_place, head_kind_in, head_length_in, head_at, operation_at, output_at, totals_at, first_records, first_operations}
-use Rattle.layout_rules.specs.Step.{step_refusal, step_numbers}
-use Rattle.layout_rules.proofs.Accepted.{no_header, numbers_refused, numbers_accepted}
+use Rattle.layout_rules.specs.Step.{step_refusal}
+use Rattle.layout_rules.proofs.Accepted.{no_header}
 use Rattle.layout_rules.proofs.FirstRecords.{length-first}
 use Rattle.layout_rules.proofs.InBytes.{length-due, length-is-due}
 use Rattle.layout_rules.proofs.TestLaws.{RefusedBy}
@@ -85,49 +83,6 @@ two_passed (suc r) s t e = absurd (omega arith)
 -- ---- the record due at a place
 
 module _ (b : List ℕ) (place kind size : ℕ) where
-  -- a step's numbers say its refusal
-  module _ (s : StepNumbers) (is : s ≡ step_numbers b place) where
-    step-refusal : (r : ℕ) → step_refusal b place ≡ r → s.refusal ≡ step_refusal b place
-    unfolding step_numbers
-    step-refusal zero e = is-refusal ∙ sym e
-      where
-        is-refusal : s.refusal ≡ 0
-        is-refusal = ap (λ (t : StepNumbers). t.refusal) is ∙ ap (λ (t : StepNumbers). t.refusal) (sym (numbers_accepted b place e))
-    step-refusal (suc r) e = ap (λ (t : StepNumbers). t.refusal) is ∙ ap (λ (t : StepNumbers). t.refusal) (sym (numbers_refused b place (λ z. omega arith)))
-
-    refusal_is : s.refusal ≡ step_refusal b place
-    refusal_is = step-refusal (step_refusal b place) refl
-
-    pub step_stops : (s.refusal ≡ 0 → ⊥) → s.refusal ≡ record_refusal b place kind size
-    unfolding record_refusal
-    step_stops h = refusal_is ∙ stays_one 8 (step_refusal b place) (eqb (word b (place + 2)) kind && eqb (word b place) size) (λ e. h (refusal_is ∙ e))
-
-    module _ (due : s.refusal ≡ 0) where
-      accepts : step_refusal b place ≡ 0
-      accepts = sym refusal_is ∙ due
-
-      kind-is : s.kind ≡ word b (place + 2)
-      kind-is = ap (λ (t : StepNumbers). t.kind) (is ∙ sym (numbers_accepted b place accepts))
-
-      pub next_is : s.next ≡ place + word b place
-      next_is = ap (λ (t : StepNumbers). t.next) (is ∙ sym (numbers_accepted b place accepts))
-
-      pub step_other_kind : (s.kind ≡ kind → ⊥) → 8 ≡ record_refusal b place kind size
-      unfolding record_refusal
-      step_other_kind h = one_fails 8 (step_refusal b place) (eqb (word b (place + 2)) kind && eqb (word b place) size) accepts
-          (simp (ne_eqb (word b (place + 2)) kind (λ e. h (kind-is ∙ e))))
-
-      module _ (same : s.kind ≡ kind) where
-        pub step_other_size : (s.next - place ≡ size → ⊥) → 8 ≡ record_refusal b place kind size
-        unfolding record_refusal
-        step_other_size h = one_fails 8 (step_refusal b place) (eqb (word b (place + 2)) kind && eqb (word b place) size) accepts
-            (simp (eq-eqb (word b (place + 2)) kind (sym kind-is ∙ same), ne_eqb (word b place) size (λ e. h (omega (arith, next_is, e)))))
-
-        pub step_expected : s.next - place ≡ size → 0 ≡ record_refusal b place kind size
-        unfolding record_refusal
-        step_expected h = one_passes 8 (step_refusal b place) (eqb (word b (place + 2)) kind && eqb (word b place) size) accepts
-            (simp (eq-eqb (word b (place + 2)) kind (sym kind-is ∙ same), eq-eqb (word b place) size (omega (arith, next_is, h))))
-
   -- a record that is due stands in the bytes with its whole length
   pub record-there : 4 ≤ size → record_refusal b place kind size ≡ 0 → place + size ≤ length b
   record-there enough e = go (record-refused b place kind size enough)
@@ -161,7 +116,7 @@ module _ (b : List ℕ) where
   unfolding head_refusal
   head-tests = refl
 
-  pub head_stops : (head_record_refusal b ≡ 0 → ⊥) → head_record_refusal b ≡ head_refusal b
+  head_stops : (head_record_refusal b ≡ 0 → ⊥) → head_record_refusal b ≡ head_refusal b
   head_stops h = stays_one 9 (head_record_refusal b) right_head h ∙ head-tests
 
   -- under 4 bytes
@@ -172,13 +127,6 @@ module _ (b : List ℕ) where
       let stops : 7 ≡ head_record_refusal b =
       e ∙ stays_one 8 (step_refusal b 0) (eqb (word b 2) (head_kind_in b) && eqb (word b 0) (head_length_in b)) (λ z. omega (arith, e, z)) in
       stops ∙ head_stops (λ z. omega (arith, stops, z))
-
-  module _ (due : head_record_refusal b ≡ 0) where
-    pub head-outside : (head_in_range (head_at b) && width_in_range (word b 2) (head_at b).width) ≡ false → 9 ≡ head_refusal b
-    head-outside h = one_fails 9 (head_record_refusal b) right_head due h ∙ head-tests
-
-    pub head-accepted : (head_in_range (head_at b) && width_in_range (word b 2) (head_at b).width) ≡ true → 0 ≡ head_refusal b
-    head-accepted h = one_passes 9 (head_record_refusal b) right_head due h ∙ head-tests
 
   head_passed : head_refusal b ≡ 0 → (head_record_refusal b ≡ 0) × (right_head ≡ true)
   head_passed e = one_passed 9 (head_record_refusal b) right_head (omega arith) (head-tests ∙ e)
@@ -284,9 +232,6 @@ module _ (b : List ℕ) (place : ℕ) (h : Head) (os : List Operation) where
   unfolding totals_refusal
   totals-tests = refl
 
-  pub totals_stop : (totals_record_refusal b place ≡ 0 → ⊥) → totals_record_refusal b place ≡ totals_refusal b place h os
-  totals_stop z = stays_one 11 (totals_record_refusal b place) totals_same z ∙ totals-tests
-
   module _ (due : totals_record_refusal b place ≡ 0) where
     pub totals-differ : (TotalsRight h os (totals_at b place) → ⊥) → 11 ≡ totals_refusal b place h os
     totals-differ z = one_fails 11 (totals_record_refusal b place) totals_same due (fails totals_same (totals_says h os (totals_at b place)) z) ∙ totals-tests
@@ -302,28 +247,42 @@ module _ (b : List ℕ) (place : ℕ) (h : Head) (os : List Operation) where
 
 module _ {A : Type 0} (refusal : List A → ℕ) (place : ℕ → ℕ) (fields : ℕ → A) where
   -- all are left
-  pub records_start : (count : ℕ) → read_records refusal place fields (count - 0) (first_records fields 0) ≡ read_records refusal place fields count []
+  records_start : (count : ℕ) → read_records refusal place fields (count - 0) (first_records fields 0) ≡ read_records refusal place fields count []
   unfolding first_records
   records_start count = let all : count - 0 ≡ count = omega arith in rw all refl
 
   -- of those that are left, the next one is refused
-  pub records_stop : (count k : ℕ) → k < count → (refusal (first_records fields k) ≡ 0 → ⊥)
+  records_stop : (count k : ℕ) → k < count → (refusal (first_records fields k) ≡ 0 → ⊥)
       → read_records refusal place fields (count - k) (first_records fields k) ≡ refused (refusal (first_records fields k)) (place k)
   records_stop count k l h =
       let less : count - k ≡ suc (count - suc k) = omega arith in
       rw less (read_stops refusal place fields (count - suc k) k (omega (arith, h)))
 
   -- or is read
-  pub records_next : (count k : ℕ) → k < count → refusal (first_records fields k) ≡ 0
+  records_next : (count k : ℕ) → k < count → refusal (first_records fields k) ≡ 0
       → read_records refusal place fields (count - k) (first_records fields k) ≡ read_records refusal place fields (count - suc k) (first_records fields (suc k))
   records_next count k l e =
       let less : count - k ≡ suc (count - suc k) = omega arith in
       rw less (read_more refusal place fields (count - suc k) k e)
 
   -- or none is left
-  pub records_end : (count k : ℕ) → count ≤ k → read_records refusal place fields (count - k) (first_records fields k) ≡ accepted (first_records fields k)
+  records_end : (count k : ℕ) → count ≤ k → read_records refusal place fields (count - k) (first_records fields k) ≡ accepted (first_records fields k)
   unfolding read_records
   records_end count k l = let none : count - k ≡ 0 = omega arith in rw none refl
+
+  -- where none of the first k is refused, those from k on are left
+  records_left : (count k : ℕ) → k ≤ count → ((j : ℕ) → j < k → refusal (first_records fields j) ≡ 0)
+      → read_records refusal place fields (count - k) (first_records fields k) ≡ read_records refusal place fields count []
+  records_left count zero l h = records_start count
+  records_left count (suc k) l h = sym (records_next count k (omega arith) (h k (omega arith))) ∙ records_left count k (omega arith) (λ j m. h j (omega arith))
+
+  pub records_refused : (count k : ℕ) → k < count → ((j : ℕ) → j < k → refusal (first_records fields j) ≡ 0) → (refusal (first_records fields k) ≡ 0 → ⊥)
+      → read_records refusal place fields count [] ≡ refused (refusal (first_records fields k)) (place k)
+  records_refused count k l h z = sym (records_left count k (omega arith) h) ∙ records_stop count k l z
+
+  pub records_accepted : (count : ℕ) → ((j : ℕ) → j < count → refusal (first_records fields j) ≡ 0)
+      → read_records refusal place fields count [] ≡ accepted (first_records fields count)
+  records_accepted count h = sym (records_left count count (omega arith) h) ∙ records_end count count (omega arith)
 
   -- where all are accepted, none is refused
   first-accepted : (k j : ℕ) (xs : List A) → read_records refusal place fields (suc k) (first_records fields j) ≡ accepted xs

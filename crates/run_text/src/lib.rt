@@ -47,9 +47,8 @@ fn write_outputs(outputs: &[i64], text: &mut [u8]) -> usize
     ensures upper_bound { result ≤ longest_line * length outputs.now }
 {
     let mut at: usize = 0;
-    let count = outputs.len();
-    for i in 0..count {
-        at += write_output(outputs[i], &mut text[at..]);
+    for &output in outputs {
+        at += write_output(output, &mut text[at..]);
     }
     at
 }
@@ -61,6 +60,7 @@ fn run_and_write(netlist: &[u8], samples: &[u8], outputs: &mut [i64], text: &mut
     ensures { Wrote text.old text.new result (run_text netlist.now samples.now) }
 {
     let answer = samples::run_on_bytes(netlist, samples, outputs);
+    // A number, since the documented call answers by `run_answer`.
     if answer.refusal != 0 {
         return text::write_refused(answer.refusal, answer.place, text);
     }
@@ -82,6 +82,7 @@ pub fn write_run(netlist: &[u8], samples: &[u8], text: &mut [u8]) -> usize
     ensures wrote { Wrote text.old text.new result (run_text_in (length text.old) netlist.now samples.now) }
     ensures prefix_length { PrefixLength result text.new }
 {
+    // A closure that asks for room would need the whole equation again as its contract, for one `if`.
     if text.len() < ROOM {
         return 0;
     }

@@ -26,9 +26,8 @@ pub fn fill_samples(bytes: &[u8], samples: &mut [i32])
     requires { 4 * length samples.old ≤ length bytes.now }
     ensures { samples.new ≡ first_samples bytes.now (length samples.old) }
 {
-    let count = samples.len();
-    for i in 0..count {
-        samples[i] = signed_double_word(double_word_at(bytes, 4 * i));
+    for (i, sample) in samples.iter_mut().enumerate() {
+        *sample = signed_double_word(double_word_at(bytes, 4 * i));
     }
 }
 

@@ -4,37 +4,25 @@ use std::io;
 use std::io::{Read, Write};
 use streams::read_full;
 
-fn write_number<W: Write>(output: &mut W, x: u64) -> io::Result<()> {
-    write!(output, " {x}")
-}
-
 fn read_netlist<W: Write>(output: &mut W, netlist: &[u8]) -> io::Result<()> {
     let answer = netlist_read::read(netlist);
-    output.write_all(b"read")?;
-    write_number(output, answer.refusal as u64)?;
-    write_number(output, answer.place as u64)?;
-    write_number(output, answer.m as u64)?;
-    write_number(output, answer.n as u64)?;
-    write_number(output, answer.operations as u64)?;
-    write_number(output, answer.depth as u64)?;
-    output.write_all(b"\n")
+    write!(output, "read {} {} ", answer.refusal, answer.place)?;
+    write!(output, "{} {} ", answer.m, answer.n)?;
+    writeln!(output, "{} {}", answer.operations, answer.depth)
 }
 
 fn check_netlist<W: Write>(output: &mut W, matrix: &[u8], netlist: &[u8]) -> io::Result<()> {
     let answer = netlist_check::check(matrix, netlist);
-    output.write_all(b"check")?;
-    write_number(output, answer.refusal as u64)?;
-    write_number(output, answer.place as u64)?;
-    output.write_all(b"\n")
+    writeln!(output, "check {} {}", answer.refusal, answer.place)
 }
 
 fn sample_width_of<W: Write>(output: &mut W, netlist: &[u8]) -> io::Result<()> {
     let answer = netlist_read::sample_width(netlist);
-    output.write_all(b"width")?;
-    write_number(output, answer.refusal as u64)?;
-    write_number(output, answer.place as u64)?;
-    write_number(output, answer.width as u64)?;
-    output.write_all(b"\n")
+    writeln!(
+        output,
+        "width {} {} {}",
+        answer.refusal, answer.place, answer.width
+    )
 }
 
 // The part that is lent takes the netlist.

@@ -1,22 +1,13 @@
 // A case of compile: the length of the lent buffer and the length of a matrix record, then the sample width (1 byte) and the record's
 // bytes. The answer and the buffer afterwards, which held A5 before, are printed.
-ghost use Rattle.std.specs.Prelude.{◌≡◌, length};
-
+use arrays::filled;
 use compile_rules::CompileAnswer;
 use std::io;
 use std::io::{Read, Write};
 use streams::read_full;
 
 // What the lent buffer holds before.
-fn old_bytes() -> [u8; 65536]
-    ensures { 65536 ≡ length result }
-{
-    [0xA5; 65536]
-}
-
-fn write_number<W: Write>(output: &mut W, x: u64) -> io::Result<()> {
-    write!(output, "{x} ")
-}
+const HELD: u8 = 0xA5;
 
 fn write_bytes<W: Write>(output: &mut W, bytes: &[u8]) -> io::Result<()> {
     for byte in bytes {
@@ -26,15 +17,21 @@ fn write_bytes<W: Write>(output: &mut W, bytes: &[u8]) -> io::Result<()> {
 }
 
 fn write_answer<W: Write>(output: &mut W, answer: CompileAnswer) -> io::Result<()> {
-    write_number(output, u64::from(answer.refusal))?;
-    write_number(output, answer.place as u64)?;
-    write_number(output, answer.written as u64)?;
-    write_number(output, u64::from(answer.operations))?;
-    write_number(output, u64::from(answer.plain))?;
-    write_number(output, u64::from(answer.divisors))?;
-    write_number(output, u64::from(answer.replacements))?;
-    write_number(output, u64::from(answer.depth))?;
-    writeln!(output, "{}", answer.negated)
+    write!(
+        output,
+        "{} {} {} ",
+        answer.refusal, answer.place, answer.written
+    )?;
+    write!(
+        output,
+        "{} {} {} ",
+        answer.operations, answer.plain, answer.divisors
+    )?;
+    writeln!(
+        output,
+        "{} {} {}",
+        answer.replacements, answer.depth, answer.negated
+    )
 }
 
 fn compile_into<W: Write>(
@@ -56,7 +53,7 @@ fn fill_matrix<R: Read, W: Write>(
     room: u16,
 ) -> io::Result<()> {
     read_full(input, matrix)?;
-    let mut buffer = old_bytes();
+    let mut buffer: [u8; 65536] = filled(HELD);
     compile_into(output, matrix, width, &mut buffer[..room as usize])
 }
 

@@ -19,12 +19,11 @@ fn one_case<R: Read, W: Write>(
     first: u16,
     second: u16,
 ) -> io::Result<()> {
-    if call == 0 {
-        compile_case::compile_case(input, output, first, second)
-    } else if call == 1 {
-        check_case::check_case(input, output, first, second)
-    } else {
-        run_case::run_case(input, output, first, second)
+    // The byte that the input has for the call; no table of functions is plainer than three arms.
+    match call {
+        0 => compile_case::compile_case(input, output, first, second),
+        1 => check_case::check_case(input, output, first, second),
+        _ => run_case::run_case(input, output, first, second),
     }
 }
 

@@ -8,17 +8,9 @@ use streams::read_full;
 // What an output holds before: −2^62, which no netlist computes.
 const HELD: i64 = -4611686018427387904;
 
-fn print_output<W: Write>(output: &mut W, value: i64) -> io::Result<()> {
-    if value < 0 {
-        write!(output, " -{}", board_width::negative_part(value))
-    } else {
-        write!(output, " {}", board_width::positive_part(value))
-    }
-}
-
 fn print_outputs<W: Write>(output: &mut W, values: &[i64]) -> io::Result<()> {
     for value in values {
-        print_output(output, *value)?;
+        write!(output, " {value}")?;
     }
     Ok(())
 }

@@ -1,6 +1,15 @@
--- What test_scores prints of a table of kept scores that is held in two arrays, keys in one and scores in the other.
+-- What test_scores prints of a table of kept scores, from the keys of its entries and their scores.
 -- Assumes nothing.
-use Rattle.std.specs.Prelude.{ℕ, zero, suc, ◌+◌, ◌*◌, List, get_or}
+use Rattle.std.specs.Prelude.{ℕ, zero, suc, ◌+◌, ◌*◌, List, get_or, map}
+use Rattle.elimination_rules.specs.Elimination.{Scored}
+use Rattle.elimination_rules.specs.Rank.{divisor_key}
+
+-- the keys and the scores of its entries
+abbrev pub keys_in : List Scored → List ℕ
+keys_in table = map (λ s. divisor_key s.divisor) table
+
+abbrev pub scores_in : List Scored → List ℕ
+scores_in table = map (λ s. s.score) table
 
 -- the sum of the first scores
 unfoldable pub score_sum : List ℕ → ℕ → ℕ

@@ -29,7 +29,7 @@ fn print_states<W: Write>(output: &mut W, matrix: &[u8]) -> io::Result<()>
 
 // Prints the states of a matrix and answers true, unless the record is declined.
 fn print_matrix<W: Write>(output: &mut W, matrix: &[u8]) -> io::Result<bool> {
-    if layout_matrix::matrix_refusal(matrix) != 0 {
+    if layout_matrix::matrix_refusal(matrix).is_err() {
         return Ok(false);
     }
     print_states(output, matrix)?;

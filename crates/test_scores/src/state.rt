@@ -1,13 +1,11 @@
 // The line of a state: how many entries the table of kept scores has, the sum of their scores, and the sum of key times score.
-ghost use Rattle.std.specs.Prelude.{◌≡◌, ◌*◌, ◌≤◌};
-ghost use Rattle.limits.specs.Limits.{max_pairs};
+ghost use Rattle.std.specs.Prelude.{◌≡◌, ◌*◌, ◌≤◌, length};
 ghost use Rattle.layout_rules.specs.Matrix.{matrix_refusal};
-ghost use Rattle.test_scores.specs.Sums.{score_sum, digest, largest_score, largest_product};
+ghost use Rattle.test_scores.specs.Sums.{keys_in, scores_in, score_sum, digest, largest_score, largest_product};
 
 use compile_plan::eliminated::eliminate_rows;
 use compile_plan::rows::matrix_rows;
-use elimination_kept::{blank_keys, blank_scores};
-use limits::MAX_PAIRS;
+use elimination_kept::KeptScores;
 use std::io;
 use std::io::Write;
 
@@ -29,16 +27,15 @@ fn entry_sums(key: u32, score: u8) -> Sums
     }
 }
 
-// The sums of the entries in use.
-fn table_sums(keys: &[u32; MAX_PAIRS], scores: &[u8; MAX_PAIRS], kept: usize) -> Sums
-    requires { kept ≤ max_pairs }
-    ensures scores_value { result.scores ≡ score_sum scores.now kept }
-    ensures digest_value { result.digest ≡ digest keys.now scores.now kept }
+// The sums of the entries.
+fn table_sums(kept: &KeptScores) -> Sums
+    ensures scores_value { result.scores ≡ score_sum (scores_in kept.now) (length kept.now) }
+    ensures digest_value { result.digest ≡ digest (keys_in kept.now) (scores_in kept.now) (length kept.now) }
 {
     let mut sum: u64 = 0;
     let mut digest: u64 = 0;
-    for i in 0..kept {
-        let entry = entry_sums(keys[i], scores[i]);
+    for i in 0..kept.count {
+        let entry = entry_sums(kept.keys[i], kept.scores[i]);
         sum += entry.scores;
         digest += entry.digest;
     }
@@ -58,14 +55,13 @@ pub(crate) fn print_state<W: Write>(output: &mut W, matrix: &[u8], steps: usize)
 {
     let n = layout_matrix::column_count(matrix) as u16;
     let first = matrix_rows(matrix);
-    let mut keys = blank_keys();
-    let mut scores = blank_scores();
-    let state = eliminate_rows(first, n, steps, &mut keys, &mut scores);
+    let mut kept = KeptScores::empty();
+    let state = eliminate_rows(first, n, steps, &mut kept);
     let made = state.operations;
     if made.count() < steps {
         return Ok(false);
     }
-    let sums = table_sums(&keys, &scores, state.kept);
-    print_line(output, state.kept, sums)?;
+    let sums = table_sums(&kept);
+    print_line(output, kept.count, sums)?;
     Ok(true)
 }

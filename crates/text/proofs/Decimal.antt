@@ -59,6 +59,13 @@ length-number (suc k) n h =
     (λ s. rw (number_small n s) (omega arith))
     (more_or_one n)
 
+-- the bounds of a machine's numbers
+pub length_short : (n : ℕ) → n < 65536 → length (number n) ≤ 5
+length_short n h = length-number 4 n (omega (arith, h))
+
+pub length_long : (n : ℕ) → n < 18446744073709551616 → length (number n) ≤ 20
+length_long n h = length-number 19 n (omega (arith, h))
+
 read-append : (value : ℕ) (ds more : List ℕ) → value_behind value (ds ++ more) ≡ value_behind (value_behind value ds) more
 unfolding value_behind
 read-append value [] more = refl

@@ -1,6 +1,6 @@
 -- Text as bytes, lines one after another, and the line of a refusal.
 -- Assumes nothing.
-use Rattle.std.specs.Prelude.{ℕ, suc, List, [], ◌∷◌, ◌++◌}
+use Rattle.std.specs.Prelude.{ℕ, zero, suc, List, [], ◌∷◌, ◌++◌}
 use Prim.Native.Char.{code}
 use Prim.Native.String.{String, [] as none, ◌∷◌ as ◌then◌}
 use Rattle.text.specs.Decimal.{number}
@@ -14,6 +14,11 @@ ascii (◌then◌ c s) = code c ∷ ascii s
 unfoldable pub lines : {A : Type 0} → (ℕ → A → List ℕ) → ℕ → List A → List ℕ
 lines line first [] = []
 lines line first (x ∷ xs) = line first x ++ lines line (suc first) xs
+
+-- the lines of the numbers below a count
+unfoldable pub lines_of : (ℕ → List ℕ) → ℕ → List ℕ
+lines_of line zero = []
+lines_of line (suc count) = lines_of line count ++ line count
 
 -- a refusal: its number and its place
 abbrev pub refused_line : ℕ → ℕ → List ℕ

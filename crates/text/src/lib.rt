@@ -1,13 +1,14 @@
-// Numbers and labels as text, and the line of a refusal. Each writer is lent the part of the text that starts at the current place,
-// returns the number of bytes it wrote, and leaves what stands behind them as it was.
-#![tactic(auto)]
+// Numbers and labels as text, lines one behind another, and the line of a refusal. Each writer is lent the part of the text that starts at
+// the current place, returns the number of bytes it wrote, and leaves what stands behind them as it was. Rests on `byte_slices`.
+#![tactic(auto, using(crate::proofs::Writers::writers))]
 
-ghost use Rattle.std.specs.Prelude.{◌++◌, ◌+◌, ◌≤◌, length};
+ghost use Rattle.std.specs.Prelude.{ℕ, List, ◌++◌, ◌+◌, ◌*◌, ◌<◌, ◌≤◌, length};
 ghost use Rattle.text.specs.Decimal.{number};
-ghost use Rattle.text.specs.Text.{ascii, refused_line, longest_refused_line};
-ghost use Rattle.text.specs.Wrote.{Wrote};
+ghost use Rattle.text.specs.Text.{ascii, lines_of, refused_line, longest_refused_line};
+ghost use Rattle.text.specs.Wrote.{Wrote, WritesEach};
 
-// A number in decimal: its digits are worked out from the last to the first, then copied.
+// A number in decimal: its digits are worked out from the last to the first, then copied. `Display` is no plainer: it writes to a
+// `fmt::Write`, which a slice is not, and may fail.
 pub fn write_number(value: usize, text: &mut [u8]) -> usize
     requires { length (number value) ≤ length text.old }
     ensures wrote { Wrote text.old text.new result (number value) }
@@ -16,12 +17,13 @@ pub fn write_number(value: usize, text: &mut [u8]) -> usize
     let mut digits = [0u8; 20];
     let mut start: usize = 19;
     let mut rest = value;
+    // Not by a `for`: it goes by what is left of the number.
     while rest >= 10 {
-        digits[start] = 48 + (rest % 10) as u8;
+        digits[start] = b'0' + (rest % 10) as u8;
         start -= 1;
         rest /= 10;
     }
-    digits[start] = 48 + rest as u8;
+    digits[start] = b'0' + rest as u8;
     byte_slices::copy(&digits[start..], text)
 }
 
@@ -64,6 +66,22 @@ pub fn write_between(label: &[u8], value: usize, other: &[u8], text: &mut [u8]) 
     let at = byte_slices::copy(label, text);
     let end = at + write_number(value, &mut text[at..]);
     end + byte_slices::copy(other, &mut text[end..])
+}
+
+// The lines of the numbers below the count, one behind another: the caller writes each, and none is longer than the longest.
+pub fn write_lines<F: Fn(u16, &mut [u8]) -> usize>(count: u16, line: F, text: &mut [u8]) -> usize
+    ghost longest: { ℕ }
+    requires room { longest * count ≤ length text.old }
+    requires callable { (k : _) (part : _) → k < count → longest ≤ length part.now → F.pre line k part }
+    requires bounded { (k : _) (before : _) (written : _) (after : _) → k < count → F.post line k before written after → written ≤ longest }
+    ensures wrote { (each : ℕ → List ℕ) → WritesEach (F.post line) count each → Wrote text.old text.new result (lines_of each count) }
+    ensures upper_bound { result ≤ longest * count }
+{
+    let mut at = 0;
+    for k in 0..count {
+        at += line(k, &mut text[at..]);
+    }
+    at
 }
 
 // Bytes that hold the line of a refusal: a number of 5 digits and a place of 20.

@@ -1,14 +1,13 @@
 -- What write_verilog returns and leaves in the lent buffer, by what reading and writing gave.
 -- Assumes nothing.
 use Prim.Native.Nat.{ℕ, ◌<◌, ◌≤◌}
-use mathlib.Core.Path.{◌≡◌, refl, sym, ap, ◌∙◌}
+use mathlib.Core.Path.{◌≡◌, sym, ap, ◌∙◌}
 use mathlib.Core.List.{List, ◌++◌}
 use native.Mathlib.Omega.{arith}
 use lib.ListN.{length, take, drop}
 use lib.Seq.{take_at}
 use Rattle.layout_rules.specs.Records.{Netlist}
-use Rattle.netlist_rules.specs.declared.ReadAnswer.{ReadAnswer}
-use Rattle.netlist_rules.specs.Read.{Reading, refused, accepted, read_netlist, read_answer_of, read_answer}
+use Rattle.netlist_rules.specs.Read.{refused, accepted, read_netlist}
 use Rattle.text.specs.Wrote.{Wrote}
 use Rattle.text.proofs.Wrote.{wrote_as, wrote_copy}
 use Rattle.verilog_rules.specs.declared.VerilogAnswer.{VerilogAnswer}
@@ -21,16 +20,8 @@ module _ (b buffer : List ℕ) where
   Answers answer after = (answer ≡ verilog_answer b (length buffer)) × (after ≡ verilog_buffer b buffer)
 
   -- 7 to 12
-  pub declines : (a : ReadAnswer) → a ≡ read_answer b → (a.refusal ≡ 0 → ⊥) → Answers (verilog_refused a.refusal a.place) buffer
-  unfolding read_answer
-  declines a is some = go (read_netlist b) refl
-    where
-      go : (x : Reading Netlist) → read_netlist b ≡ x → Answers (verilog_refused a.refusal a.place) buffer
-      go (refused r place) e = (
-        ap (λ (y : ReadAnswer). verilog_refused y.refusal y.place) (is ∙ ap read_answer_of e) ∙ sym (answer-refused b r place e (length buffer)),
-        sym (buffer-refused b r place e buffer),
-      )
-      go (accepted net) e = absurd (some (ap (λ (y : ReadAnswer). y.refusal) (is ∙ ap read_answer_of e)))
+  pub declines : (r place : ℕ) → read_netlist b ≡ refused r place → Answers (verilog_refused r place) buffer
+  declines r place e = (sym (answer-refused b r place e (length buffer)), sym (buffer-refused b r place e buffer))
 
   -- the text is written elsewhere
   module _ (net : Netlist) (e : read_netlist b ≡ accepted net) (before text : List ℕ) (count : ℕ) (w : Wrote before text count (netlist_text net)) where
@@ -48,11 +39,11 @@ module _ (b buffer : List ℕ) where
     -- and copied
     pub copied : (after : List ℕ) (number : ℕ) → count ≤ length buffer → number ≡ length (take count text)
         → after ≡ take count text ++ drop (length (take count text)) buffer
-        → Answers (record { refusal = 0; place = 0; written = count }) after
+        → Answers (record { refusal = 0; place = 0; written = number }) after
     copied after number h n left =
         let room : length (netlist_text net) ≤ length buffer = omega (arith, h, w.counted) in
         let all : Wrote buffer after number (netlist_text net) = wrote_as part_is (wrote_copy buffer (take count text) after number n left) in (
-          ap (λ (k : ℕ). record { refusal = 0; place = 0; written = k }) w.counted
+          ap (λ (k : ℕ). record { refusal = 0; place = 0; written = k }) all.counted
               ∙ sym (answer-read b net e (length buffer) ∙ answer-room (netlist_text net) (length buffer) room),
           all.text ∙ sym (buffer-read b net e buffer ∙ buffer-room (netlist_text net) buffer room),
         )

@@ -1,20 +1,20 @@
--- Writing a module part by part: the two lines of a wire and of an output, the two halves of the text, and bytes that hold them as the
+-- Writing a module part by part: its wires and rows, the two halves of the text, and bytes that hold them as the
 -- writers ask for them.
 -- Assumes nothing.
-use Rattle.std.specs.Prelude.{ℕ, ◌+◌, ◌*◌, Bool, cond, List, ◌++◌, length, replicate}
+use Rattle.std.specs.Prelude.{ℕ, ◌+◌, ◌*◌, List, ◌++◌, length, replicate, map}
 use Rattle.limits.specs.Limits.{max_rows, max_columns, max_operations}
+use Rattle.layout_rules.specs.Places.{operations_in, outputs_in}
 use Rattle.text.specs.Text.{ascii, lines}
-use Rattle.verilog_rules.specs.Module.{Assignment, Module}
+use Rattle.verilog_rules.specs.Module.{Assignment, Module, wire_of, output_of}
 use Rattle.verilog_rules.specs.Text.{first_line, input_line, output_line, wire_line, wire_assignment, output_assignment}
 use Rattle.verilog_lines.specs.Room.{longest_port_line, longest_wire_assignment, longest_output_assignment}
 
--- a wire's assignment, or else its declaration
-abbrev pub line_of_wire : Bool → ℕ → ℕ → Assignment → List ℕ
-line_of_wire assigned inputs symbol a = cond assigned (wire_assignment inputs symbol a) (wire_line symbol a)
+-- the wires and the rows of a netlist in bytes
+abbrev pub wires : List ℕ → List Assignment
+wires b = map wire_of (operations_in b)
 
--- an output's assignment, or else its port
-abbrev pub line_of_output : Bool → ℕ → ℕ → ℕ → Assignment → List ℕ
-line_of_output assigned ports inputs row a = cond assigned (output_assignment inputs row a) (output_line ports inputs row a)
+abbrev pub rows : List ℕ → List Assignment
+rows b = map output_of (outputs_in b)
 
 -- up to the end of the ports
 unfoldable pub ports_text : Module → List ℕ

@@ -3,8 +3,7 @@
 // never with `refused`.
 #![tactic(auto)]
 
-ghost use Rattle.std.specs.Prelude.{◌≡◌, length};
-
+use arrays::filled;
 use std::io;
 use std::io::Write;
 use streams::read_full;
@@ -12,14 +11,8 @@ use streams::read_full;
 // As much of a netlist as any answer needs.
 const NETLIST_ROOM: usize = 131072;
 
-fn no_netlist() -> [u8; NETLIST_ROOM]
-    ensures { 131072 ≡ length result }
-{
-    [0; NETLIST_ROOM]
-}
-
 fn main(rt: HostRuntime) -> io::Result<()> {
-    let mut netlist = no_netlist();
+    let mut netlist: [u8; NETLIST_ROOM] = filled(0);
     let count = read_full(&mut rt.stdin(), &mut netlist)?;
     let mut output = [0u8; 65536];
     let written = verilog_output::write_module(&netlist[..count], &mut output);

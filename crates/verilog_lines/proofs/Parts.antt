@@ -3,9 +3,9 @@
 use mathlib.Core.Path.{◌≡◌, refl}
 use mathlib.Core.Bool.{cond}
 use mathlib.Core.List.{◌++◌}
-use Prim.Native.Nat.{ℕ, zero, suc, ◌+◌, ◌<◌, ◌≤◌, pred}
+use Prim.Native.Nat.{ℕ, zero, suc, ◌+◌, pred}
 use native.Mathlib.Omega.{arith}
-use borrow.Author.Tests.{eq-eqb, ne_eqb, lt-ltb, le-ltb}
+use borrow.Author.Tests.{ne_eqb}
 use lib.Dec.{eqb}
 use Rattle.layout_rules.specs.declared.Operation.{Operation}
 use Rattle.layout_rules.specs.declared.Output.{Output}
@@ -15,12 +15,6 @@ use Rattle.verilog_rules.specs.Module.{Operand, operand, joined_operands, wire_o
 use Rattle.verilog_rules.specs.Text.{port_end, input_line, output_line, wire_line, name, operand_text, expression_text, wire_assignment, output_assignment}
 
 -- ---- ports and wires: the highest bit's number as `top_bit` gives it, the port's as it is counted in code
-
-pub end-last : (ports port : ℕ) → port ≡ ports → ascii "\n" ≡ port_end ports port
-end-last ports port e = rw (eq-eqb port ports e)
-
-pub end_before : (ports port : ℕ) → (port ≡ ports → ⊥) → ascii ",\n" ≡ port_end ports port
-end_before ports port e = rw (ne_eqb port ports e)
 
 pub input_parts : (ports column width top : ℕ) → top ≡ pred width
     → (ascii "  input signed [" ++ number top ++ ascii ":0] x" ++ number column) ++ port_end ports (column + 1) ≡ input_line ports column width
@@ -43,26 +37,12 @@ wire_parts symbol top a e = rw e
 
 -- ---- operands
 
-pub unclosed_input : (inputs symbol shift : ℕ) → symbol < inputs
-    → ascii "(x" ++ number symbol ++ ascii " <<< " ++ number shift ≡ ascii "(" ++ name inputs symbol ++ ascii " <<< " ++ number shift
-unclosed_input inputs symbol shift h = rw (lt-ltb symbol inputs h)
-
-pub unclosed_wire : (inputs symbol shift : ℕ) → inputs ≤ symbol
-    → ascii "(s" ++ number symbol ++ ascii " <<< " ++ number shift ≡ ascii "(" ++ name inputs symbol ++ ascii " <<< " ++ number shift
-unclosed_wire inputs symbol shift h = rw (le-ltb symbol inputs h)
-
 pub operand_parts : (inputs symbol shift : ℕ)
     → (ascii "(" ++ name inputs symbol ++ ascii " <<< " ++ number shift) ++ ascii ")" ≡ operand_text inputs (operand symbol shift)
 unfolding operand_text
 operand_parts inputs symbol shift = refl
 
 -- ---- expressions
-
-pub sign-add : (sign : ℕ) → sign ≡ 0 → ascii " + " ≡ cond (eqb sign 0) (ascii " + ") (ascii " - ")
-sign-add sign e = rw (eq-eqb sign 0 e)
-
-pub sign-subtract : (sign : ℕ) → (sign ≡ 0 → ⊥) → ascii " - " ≡ cond (eqb sign 0) (ascii " + ") (ascii " - ")
-sign-subtract sign e = rw (ne_eqb sign 0 e)
 
 joined_parts : (inputs sign : ℕ) (a b : Operand)
     → operand_text inputs a ++ cond (eqb sign 0) (ascii " + ") (ascii " - ") ++ operand_text inputs b ≡ expression_text inputs (joined_operands sign a b)

@@ -1,6 +1,6 @@
 // Document 01, "Verilog": the lines of a module, as `verilog_rules` has them. Each writer is lent the part of the text that starts at the
 // current place, as those of `text` are.
-#![tactic(auto)]
+#![tactic(auto, using(text::proofs::Writers::writers))]
 
 ghost use Rattle.std.specs.Prelude.{cond, ◌++◌, ◌≡◌, ◌+◌, ◌<◌, ◌≤◌, pred, eqb, length};
 ghost use Rattle.text.specs.Decimal.{number};
@@ -24,10 +24,7 @@ pub const LONGEST_OUTPUT_ASSIGNMENT: usize = 39;
 fn top_bit(width: u8) -> u16
     ensures { result ≡ pred width }
 {
-    if width < 2 {
-        return 0;
-    }
-    width as u16 - 1
+    u16::from(width.saturating_sub(1))
 }
 
 // What stands behind the port with a number, counted from 1 on.
@@ -36,10 +33,8 @@ fn write_port_end(ports: u16, port: u16, text: &mut [u8]) -> usize
     ensures wrote { Wrote text.old text.new result (port_end ports port) }
     ensures upper_bound { result ≤ 2 }
 {
-    if port == ports {
-        return byte_slices::copy(b"\n", text);
-    }
-    byte_slices::copy(b",\n", text)
+    let end: &[u8] = if port == ports { b"\n" } else { b",\n" };
+    byte_slices::copy(end, text)
 }
 
 // The line of a column's input.
@@ -83,10 +78,8 @@ fn write_unclosed_operand(inputs: u16, symbol: u16, shift: u8, text: &mut [u8]) 
     ensures wrote { Wrote text.old text.new result (ascii "(" ++ name inputs symbol ++ ascii " <<< " ++ number shift) }
     ensures upper_bound { result ≤ 17 }
 {
-    if symbol < inputs {
-        return write_pair(b"(x", symbol, b" <<< ", shift as u16, text);
-    }
-    write_pair(b"(s", symbol, b" <<< ", shift as u16, text)
+    let signal: &[u8] = if symbol < inputs { b"(x" } else { b"(s" };
+    write_pair(signal, symbol, b" <<< ", shift as u16, text)
 }
 
 // The signal of a symbol, shifted to the left.
@@ -105,10 +98,8 @@ fn write_sign(sign: u8, text: &mut [u8]) -> usize
     ensures wrote { Wrote text.old text.new result (cond (eqb sign 0) (ascii " + ") (ascii " - ")) }
     ensures upper_bound { result ≤ 3 }
 {
-    if sign == 0 {
-        return byte_slices::copy(b" + ", text);
-    }
-    byte_slices::copy(b" - ", text)
+    let joined: &[u8] = if sign == 0 { b" + " } else { b" - " };
+    byte_slices::copy(joined, text)
 }
 
 // What is assigned to the wire of an operation.
@@ -145,17 +136,17 @@ fn write_output_expression(inputs: u16, output: Output, text: &mut [u8]) -> usiz
     ensures wrote { Wrote text.old text.new result (expression_text inputs (output_of output).expression) }
     ensures upper_bound { result ≤ 19 }
 {
-    if output.sign == 0 {
-        return write_operand(inputs, output.symbol, output.shift, text);
+    match output.sign {
+        0 => write_operand(inputs, output.symbol, output.shift, text),
+        1 => {
+            let at = byte_slices::copy(b"-", text);
+            at + write_operand(inputs, output.symbol, output.shift, &mut text[at..])
+        }
+        _ => byte_slices::copy(b"1'sb0", text),
     }
-    if output.sign == 1 {
-        let at = byte_slices::copy(b"-", text);
-        return at + write_operand(inputs, output.symbol, output.shift, &mut text[at..]);
-    }
-    byte_slices::copy(b"1'sb0", text)
 }
 
-// The assignment to a row's output.
+// The assignment to a row's output. It shares the calls of a wire's, but neither label nor expression: a closure for the latter is longer.
 pub fn write_output_assignment(inputs: u16, row: u16, output: Output, text: &mut [u8]) -> usize
     requires { longest_output_assignment ≤ length text.old }
     ensures wrote { Wrote text.old text.new result (output_assignment inputs row (output_of output)) }

@@ -12,6 +12,7 @@ fn write_output(netlist: &[u8], output: &mut [u8]) -> usize
     ensures { Wrote output.old output.new result (verilog_output netlist.now) }
 {
     let answer = verilog::write_verilog(netlist, output);
+    // A number, since the documented call answers by `verilog_answer`.
     if answer.refusal != 0 {
         return text::write_refused(answer.refusal, answer.place, output);
     }
@@ -23,6 +24,7 @@ pub fn write_module(netlist: &[u8], output: &mut [u8]) -> usize
     ensures wrote { Wrote output.old output.new result (verilog_output_in (length output.old) netlist.now) }
     ensures prefix_length { PrefixLength result output.new }
 {
+    // A closure that asks for room would need the whole equation again as its contract, for one `if`.
     if output.len() < verilog_rules::ENOUGH_TEXT {
         return 0;
     }

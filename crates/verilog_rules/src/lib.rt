@@ -8,7 +8,8 @@ use limits::{MAX_COLUMNS, MAX_OPERATIONS, MAX_ROWS};
 // "37,987 bytes always suffice."
 pub const ENOUGH_TEXT: usize = 27 + 26 * MAX_COLUMNS + 57 * MAX_ROWS + 74 * MAX_OPERATIONS;
 
-// What write_verilog returns: a refusal and its place, or the bytes written.
+// What write_verilog returns: a refusal and its place, or the bytes written. The refusal is a number, since the C interface has it so and
+// `verilog_answer` says what it is.
 #[derive(Clone, Copy)]
 pub struct VerilogAnswer {
     pub refusal: u8,

@@ -1,11 +1,12 @@
 -- `bank_text::write_text` meets its contract. Assumes nothing.
 use Prim.Native.Nat.{ℕ, ◌≤◌}
-use mathlib.Core.Path.{◌≡◌}
+use mathlib.Core.Path.{◌≡◌, sym, ap, ◌∙◌}
 use mathlib.Core.List.{List}
 use native.Mathlib.Omega.{arith}
 use lib.ListN.{length}
+use Rattle.arrays.proofs.FilledLaws.{length-filled}
 use Rattle.limits.specs.Limits.{max_operations}
-use Rattle.layout_rules.specs.Places.{output_place, head_length_in}
+use Rattle.layout_rules.specs.Places.{enough_bytes, output_place, head_length_in}
 use Rattle.layout_rules.specs.Matrix.{rows, columns}
 use Rattle.layout_rules.proofs.LittleEndian.{AreBytes}
 use Rattle.layout_rules.proofs.MatrixRefusal.{AcceptedMatrix}
@@ -31,24 +32,27 @@ module _ (c : Lts.After-compile Tie.the-claims Reads.Pre Reads.Post Tie.handed_c
   abbrev s : ℕ
   s = known.args.sample_width
 
+  room : enough_bytes ≡ length c.filled-netlist.result
+  room = sym (ap length c.filled-netlist.ensures ∙ length-filled 0 enough_bytes)
+
   all : AreBytes bytes
   all i = omega (arith, known.shared_slice_known-1.given i)
 
   refusal-text : (c.compile-answer.result.refusal ≡ 0 → ⊥) → refused_line c.compile-answer.result.refusal c.compile-answer.result.place ≡ bank_text s bytes
-  refusal-text = text-refused s bytes all _ _ c.compile-answer.result c.no_netlist-netlist.ensures c.compile-answer.ensures.value c.compile-answer.ensures.buffer_after
+  refusal-text = text-refused s bytes all _ _ c.compile-answer.result room c.compile-answer.ensures.value c.compile-answer.ensures.buffer_after
 
   module _ (e : c.compile-answer.result.refusal ≡ 0) where
     netlist-text : (n m : ℕ) → n ≡ columns bytes → m ≡ rows bytes → listing_of (counts_from n m c.compile-answer.result) c.compile-answer.new.buffer ≡ bank_text s bytes
-    netlist-text = text-accepted s bytes all _ _ c.compile-answer.result c.no_netlist-netlist.ensures c.compile-answer.ensures.value c.compile-answer.ensures.buffer_after e
+    netlist-text = text-accepted s bytes all _ _ c.compile-answer.result room c.compile-answer.ensures.value c.compile-answer.ensures.buffer_after e
 
     within : AcceptedMatrix bytes
-    within = limits s bytes all _ _ c.compile-answer.result c.no_netlist-netlist.ensures c.compile-answer.ensures.value c.compile-answer.ensures.buffer_after e
+    within = limits s bytes all _ _ c.compile-answer.result room c.compile-answer.ensures.value c.compile-answer.ensures.buffer_after e
 
     enough : output_place (head_length_in c.compile-answer.new.buffer) c.compile-answer.result.operations (rows bytes) ≤ length c.compile-answer.new.buffer
-    enough = long s bytes all _ _ c.compile-answer.result c.no_netlist-netlist.ensures c.compile-answer.ensures.value c.compile-answer.ensures.buffer_after e
+    enough = long s bytes all _ _ c.compile-answer.result room c.compile-answer.ensures.value c.compile-answer.ensures.buffer_after e
 
     operations : c.compile-answer.result.operations ≤ max_operations
-    operations = few s bytes all _ _ c.compile-answer.result c.no_netlist-netlist.ensures c.compile-answer.ensures.value c.compile-answer.ensures.buffer_after e
+    operations = few s bytes all _ _ c.compile-answer.result room c.compile-answer.ensures.value c.compile-answer.ensures.buffer_after e
 
 pub returns-then-answer-ne0 : goal.returns-then-answer-ne0
 returns-then-answer-ne0 c =

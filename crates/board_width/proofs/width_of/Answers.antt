@@ -26,9 +26,9 @@ ends (suc g) p q spread z h e =
     record { within = omega arith; above = omega arith; below = omega arith; high = rw d (omega arith); low = rw d (omega arith) }
 
 -- the end that is farther from 0, as the code has it
-end_is : {P spread x r : ℕ} (p q : ℕ) → Ends P p q spread → x ≡ pred (spread - q) → r ≡ max (spread - p) x
+end_is : {P spread x r : ℕ} (p q : ℕ) → Ends P p q spread → x ≡ spread - q - 1 → r ≡ max (spread - p) x
     → r ≡ max ((P - 1) * p + P * q) (pred (P * p + (P - 1) * q))
-end_is p q d e f = f ∙ rw (e, d.high, d.low) refl
+end_is {P} p q d e f = let less : (y : ℕ) → y - 1 ≡ pred y = λ y. omega arith in f ∙ rw (e, d.high, d.low, less (P * p + (P - 1) * q)) refl
 
 pub overflow_add-p : goal.overflow_add-p
 overflow_add-p c = omega (arith, c.requires.q_bound, mul-le-mul_right (c.args.p + c.args.q) (pow_pos (c.args.s - 1)))
@@ -55,18 +55,18 @@ overflow_sub-high c = omega (arith, (range c).above)
 pub overflow_sub-low : goal.overflow_sub-low
 overflow_sub-low c = omega (arith, (range c).below)
 
-module _ (c : Lts.After-larger Tie.the-claims Reads.Pre Reads.Post Tie.handed_clauses) where
+module _ (c : Lts.After-max Tie.the-claims Reads.Pre Reads.Post Tie.handed_clauses) where
   abbrev a : Lts.After-scaled Tie.the-claims Reads.Pre Reads.Post Tie.handed_clauses
   a = c.before.before
 
-  end : c.larger-end.result ≡ max (highest_of (s a) (p a) (q a)) (pred (lowest_of (s a) (p a) (q a)))
-  end = end_is (p a) (q a) (range a) c.one_less.ensures c.larger-end.ensures
+  end : c.max-end.result ≡ max (highest_of (s a) (p a) (q a)) (pred (lowest_of (s a) (p a) (q a)))
+  end = end_is (p a) (q a) (range a) c.saturating_sub.ensures c.max-end.ensures
 
-  end_fits : c.larger-end.result < 2 ^ 62
-  end_fits = omega (arith, c.larger-end.ensures, c.one_less.ensures, (range a).within)
+  end_fits : c.max-end.result < 2 ^ 62
+  end_fits = omega (arith, c.max-end.ensures, c.saturating_sub.ensures, (range a).within)
 
 pub overflow_add-result : goal.overflow_add-result
-overflow_add-result c = omega (arith, c.bit_count.ensures, bits-least c.larger-end.result 62 (end_fits c.before))
+overflow_add-result c = omega (arith, c.bit_count.ensures, bits-least c.max-end.result 62 (end_fits c.before))
 
 pub returns : goal.returns
 returns c = omega (arith, c.bit_count.ensures ∙ ap bits (end c.before))

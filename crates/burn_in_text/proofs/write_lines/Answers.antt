@@ -20,7 +20,7 @@ loop-preserved c =
     let line = c.write_line-at.ensures in
     rw add-one (
       wrote_as (lines_next step l.counter l.seed l.invariant.1) (wrote_more l.invariant.0 line.wrote),
-      c.wrapping_add_u32-seed.ensures.value ∙ ap (λ (x : ℕ). (x + step) % 2 ^ 32) l.invariant.1 ∙ seed_next step l.counter,
+      ap (λ (x : ℕ). (x + step) % 2 ^ 32) l.invariant.1 ∙ seed_next step l.counter,
       omega arith,
       omega (arith, line.upper_bound),
       omega arith,

@@ -1,5 +1,7 @@
 -- `burn_in_text::write_outcome` meets its contract. Assumes nothing.
-use Rattle.std.proofs.Common.{◌≡◌, ℕ, ◌≤◌, List, ◌++◌, length, take, sym, arith, length-take-le}
+use Rattle.std.proofs.Common.{◌≡◌, ℕ, ◌≤◌, List, ◌++◌, length, take, sym, ap, ◌∙◌, arith, length-take-le}
+use Rattle.arrays.proofs.FilledLaws.{length-filled}
+use Rattle.layout_rules.specs.Places.{enough_bytes}
 use Rattle.layout_rules.proofs.LittleEndian.{AreBytes}
 use Rattle.netlist_rules.specs.declared.CheckAnswer.{CheckAnswer}
 use Rattle.netlist_rules.specs.Check.{check_answer}
@@ -21,24 +23,27 @@ module _ (c : Lts.After-compile Tie.the-claims Reads.Pre Reads.Post Tie.handed_c
   abbrev bytes : List ℕ
   bytes = known.args.matrix.now
 
+  room : enough_bytes ≡ length c.filled-netlist.result
+  room = sym (ap length c.filled-netlist.ensures ∙ length-filled 0 enough_bytes)
+
   all : AreBytes bytes
   all i = omega (arith, known.shared_slice_known-1.given i)
 
   refusal-text : (c.compile-compiled.result.refusal ≡ 0 → ⊥) → refused_line c.compile-compiled.result.refusal c.compile-compiled.result.place ≡ outcome_text bytes
-  refusal-text = outcome_refused bytes all _ _ c.compile-compiled.result c.no_netlist-netlist.ensures c.compile-compiled.ensures.value c.compile-compiled.ensures.buffer_after
+  refusal-text = outcome_refused bytes all _ _ c.compile-compiled.result room c.compile-compiled.ensures.value c.compile-compiled.ensures.buffer_after
 
   part : c.compile-compiled.result.refusal ≡ 0 → c.compile-compiled.result.written ≤ length c.compile-compiled.new.buffer
-  part = netlist_part bytes all _ _ c.compile-compiled.result c.no_netlist-netlist.ensures c.compile-compiled.ensures.value c.compile-compiled.ensures.buffer_after
+  part = netlist_part bytes all _ _ c.compile-compiled.result room c.compile-compiled.ensures.value c.compile-compiled.ensures.buffer_after
 
   module _ (accepts : c.compile-compiled.result.refusal ≡ 0) (check : CheckAnswer)
       (checks : check ≡ check_answer bytes (take c.compile-compiled.result.written c.compile-compiled.new.buffer)) where
     check-text : (check.refusal ≡ 0 → ⊥) → refused_line check.refusal check.place ≡ outcome_text bytes
     check-text =
-        check_refused bytes all _ _ c.compile-compiled.result c.no_netlist-netlist.ensures c.compile-compiled.ensures.value c.compile-compiled.ensures.buffer_after accepts check checks
+        check_refused bytes all _ _ c.compile-compiled.result room c.compile-compiled.ensures.value c.compile-compiled.ensures.buffer_after accepts check checks
 
     operations-text : check.refusal ≡ 0 → ascii "operations " ++ number c.compile-compiled.result.operations ++ ascii "\n" ≡ outcome_text bytes
     operations-text =
-        check_accepted bytes all _ _ c.compile-compiled.result c.no_netlist-netlist.ensures c.compile-compiled.ensures.value c.compile-compiled.ensures.buffer_after accepts check checks
+        check_accepted bytes all _ _ c.compile-compiled.result room c.compile-compiled.ensures.value c.compile-compiled.ensures.buffer_after accepts check checks
 
 pub returns-then-compiled-ne0 : goal.returns-then-compiled-ne0
 returns-then-compiled-ne0 c =

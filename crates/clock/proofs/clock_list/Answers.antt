@@ -1,108 +1,56 @@
 -- `clock::clock_list` meets its contract. Assumes nothing.
-use Prim.Native.Nat.{ℕ, ◌*◌, ◌≤◌}
-use mathlib.Core.Path.{◌≡◌, refl, sym, ◌∙◌, ap, ap₂, subst}
-use mathlib.Core.List.{List, ◌++◌}
+use mathlib.Core.Path.{sym, ◌∙◌, ap, ap₂}
+use Prim.Native.Nat.{ℕ, ◌+◌}
+use mathlib.Core.List.{List}
 use native.Mathlib.Omega.{arith}
-use lib.IntN.{ℤ, pos}
-use lib.ListN.{length, drop, replicate}
-use Rattle.layout_rules.specs.declared.Head.{Head}
-use Rattle.layout_rules.specs.Records.{Netlist}
-use Rattle.layout_rules.specs.Places.{head_at, netlist_in}
-use Rattle.board_rules.specs.Width.{Samples}
-use Rattle.netlist_read.specs.Tables.{NetlistRead}
-use Rattle.clock_rules.specs.Delays.{registers}
-use Rattle.clock_rules.specs.Clocked.{cleared, store_from, outputs_from, vectors_of, in_order}
-use Rattle.clock_rules.specs.Answer.{vector_count, vectors_in}
-use Rattle.clock_rules.proofs.Ranges.{length-cleared}
-use Rattle.clock_rules.proofs.Running.{cleared_again}
+use lib.IntN.{ℤ}
+use lib.ListN.{length}
+use lib.Seq.{length-take-le}
+use Rattle.limits.specs.Limits.{max_symbols}
+use Rattle.layout_rules.specs.Places.{netlist_in}
+use Rattle.board_rules.proofs.TableLaws.{length-filled}
+use Rattle.clock_rules.specs.Clocked.{store_from, outputs_from, in_order}
+use Rattle.clock_delays.proofs.Entered.{symbols_few}
+use Rattle.clock_delays.proofs.Waiting.{waiting-taken}
+use Rattle.clock.proofs.ListLaws.{cleared-is, cleared-store, vectors-are}
 use Rattle.clock.proofs.clock_list.Goals as goal
-use Rattle.clock.proofs.clock_list.Lts
-use Rattle.clock.proofs.clock_list.Reads
-use Rattle.clock.proofs.clock_list.Tie
 
--- at the start
-module _ (s : Lts.Start Tie.the-claims Reads.Pre Reads.Post Tie.handed_clauses) where
-  abbrev b : List ℕ
-  b = s.args.netlist.now
+pub overflow_add-symbols : goal.overflow_add-symbols
+overflow_add-symbols c = omega (arith, symbols_few c.args.depths.now)
 
-  abbrev net : Netlist
-  net = netlist_in b
+pub fill_waiting-entries-requires : goal.fill_waiting-entries-requires
+fill_waiting-entries-requires c = (
+  c.requires.longest_held.0.room,
+  (omega (arith, symbols_few c.args.depths.now), ap (λ (l : List ℕ). length l) c.filled-waiting.ensures ∙ length-filled 0 max_symbols),
+)
 
-  N : NetlistRead b
-  N = s.requires.netlist_read.0
+pub slice_bounds-waiting-end : goal.slice_bounds-waiting-end
+slice_bounds-waiting-end c = let W = c.fill_waiting-entries.ensures in omega (arith, W.few, W.room, symbols_few c.args.depths.now)
 
-  head-is : s.args.head ≡ head_at b
-  head-is = s.requires.netlist_read.1.1
+pub slice_bounds-schedule-end : goal.slice_bounds-schedule-end
+slice_bounds-schedule-end c = let W = c.fill_waiting-entries.ensures in
+    sym (length-take-le c.fill_waiting-entries.result c.fill_waiting-entries.new.waiting (omega (arith, W.few, W.room, symbols_few c.args.depths.now)))
 
-  n-is : s.args.head.n ≡ (head_at b).n
-  n-is = ap (λ (h : Head). h.n) head-is
-
-  m-is : s.args.head.m ≡ (head_at b).m
-  m-is = ap (λ (h : Head). h.m) head-is
-
-  operations-are : s.args.head.operations ≡ (head_at b).operations
-  operations-are = ap (λ (h : Head). h.operations) head-is
-
-  room : registers net ≤ length s.args.store.now
-  room = omega (arith, s.requires.longest_held.1.1, s.requires.samples.1)
-
-pub fill_operands-requires : goal.fill_operands-requires
-fill_operands-requires c = let s = c in
-    record { netlist_read = (N s.before.before.before.before.before.before.before.before.before, s.requires.netlist_read.1.0); n_value = (n-is s.before.before.before.before.before.before.before.before.before, operations-are s.before.before.before.before.before.before.before.before.before); symbol_depths = (s.requires.depth_value.1, s.requires.longest_held.1.0); firsts_len = (c.blank_sources-firsts.ensures, c.blank_sources-seconds.ensures) }
-
-pub fill_outputs-requires : goal.fill_outputs-requires
-fill_outputs-requires c = let s = c in
-    record { netlist_read = (N s.before.before.before.before.before.before.before.before.before.before.before, s.requires.netlist_read.1.0); n_value = (n-is s.before.before.before.before.before.before.before.before.before.before.before, (m-is s.before.before.before.before.before.before.before.before.before.before.before, operations-are s.before.before.before.before.before.before.before.before.before.before.before)); depth_value = (s.requires.depth_value.0, (s.requires.depth_value.1, s.requires.longest_held.1.0)); sources_len = refl }
-
-pub clear-requires : goal.clear-requires
-clear-requires c = let s = c in omega (arith, s.requires.samples.1)
-
--- the registers are cleared, and the vectors counted
-module _ (c : Lts.After-vector_count Tie.the-claims Reads.Pre Reads.Post Tie.handed_clauses) where
-  abbrev s : Lts.Start Tie.the-claims Reads.Pre Reads.Post Tie.handed_clauses
-  s = c.before.before.before.before.before.before.before.before.before.before.before.before.before.before.before
-
-  abbrev store : List ℤ
-  store = c.clear.new.store
-
-  cleared-is : store ≡ cleared (net s) s.args.store.now
-  unfolding cleared
-  cleared-is =
-      c.clear.ensures ∙ ap (λ (k : ℕ). replicate k (pos 0) ++ drop k s.args.store.now) s.requires.longest_held.1.1
-
-  count-is : c.vector_count-clocks.result ≡ vector_count s.args.head.n (length s.args.samples.now)
-  count-is = c.vector_count-clocks.ensures
-
-  -- as many samples and outputs as the vectors have
-  samples-all : length s.args.samples.now ≡ c.vector_count-clocks.result * s.args.head.n
-  samples-all = s.requires.samples_len.0 ∙ ap (λ (k : ℕ). k * s.args.head.n) (sym count-is)
-
-  outputs-all : length s.args.outputs.now ≡ c.vector_count-clocks.result * s.args.head.m
-  outputs-all = s.requires.samples_len.1 ∙ ap (λ (k : ℕ). k * s.args.head.m) (sym count-is)
-
-  again : store ≡ cleared (net s) store
-  again = cleared-is ∙ sym (cleared_again (net s) s.args.store.now) ∙ ap (cleared (net s)) (sym cleared-is)
-
-  stays : registers (net s) ≤ length store
-  stays = omega (arith, ap (λ (l : List ℤ). length l) cleared-is, length-cleared (net s) s.args.store.now (room s), room s)
-
-  vectors-are : vectors_of s.args.head.n c.vector_count-clocks.result s.args.samples.now ≡ vectors_in (net s) s.args.samples.now
-  vectors-are =
-      ap (λ (k : ℕ). vectors_of s.args.head.n k s.args.samples.now) count-is
-      ∙ ap (λ (k : ℕ). vectors_of k (vector_count k (length s.args.samples.now)) s.args.samples.now) (n-is s)
-
-pub clock_vectors-requires : goal.clock_vectors-requires
-clock_vectors-requires c = let v = c in let S = s v.before.before.before.before.before.before in record {
-  netlist_read = (N S, S.requires.netlist_read.1.0);
-  n_value = (n-is S, (m-is S, operations-are S));
-  longest_held = (S.requires.longest_held.0, (c.fill_operands.ensures, c.fill_outputs.ensures));
-  samples_len = (samples-all v.before.before.before.before.before.before, outputs-all v.before.before.before.before.before.before);
-  samples = subst (λ (h : Head). Samples h.width (length S.args.samples.now) S.args.samples.now) (head-is S) S.requires.samples.0;
-  store_value = (again v.before.before.before.before.before.before, stays v.before.before.before.before.before.before);
+pub invariant_of-schedule : goal.invariant_of-schedule
+invariant_of-schedule c = let D = c.args.depths.now in let w = c.fill_waiting-entries in record {
+  longest_held = c.requires.longest_held.0;
+  waiting_held = waiting-taken c.args.longest.now w.new.waiting (D.netlist.head.n + D.netlist.head.operations) w.result (rw (c.n.ensures, c.operations.ensures) at w.ensures)
+      (omega (arith, w.ensures.few, w.ensures.room, symbols_few D));
+  operands_held = c.fill_operands.ensures;
+  outputs_held = c.fill_outputs.ensures;
 }
+
+pub clock_vectors-requires-clause-store_value : goal.clock_vectors-requires-clause-store_value
+clock_vectors-requires-clause-store_value c =
+    cleared-store (netlist_in c.args.depths.now.netlist.bytes.now) c.args.total c.requires.longest_held.1.1 c.args.store.now c.fill.new.self (c.fill.ensures.after (λ y e. e)) c.requires.samples.1
 
 pub returns : goal.returns
-returns c = let v = c in let S = s v.before.before.before.before.before.before.before.before.before in let r = c.clock_vectors in record {
-  store_after = r.ensures.store_after ∙ ap₂ (λ (l : List ℤ) (vs : List (List ℤ)). store_from (net S) l vs) (cleared-is v.before.before.before.before.before.before.before.before.before) (vectors-are v.before.before.before.before.before.before.before.before.before);
-  outputs_after = r.ensures.outputs_after ∙ ap₂ (λ (l : List ℤ) (vs : List (List ℤ)). in_order (outputs_from (net S) l vs)) (cleared-is v.before.before.before.before.before.before.before.before.before) (vectors-are v.before.before.before.before.before.before.before.before.before);
-}
+returns c =
+    let N = c.args.depths.now.netlist in
+    let net = netlist_in N.bytes.now in
+    let store = cleared-is net c.args.total c.requires.longest_held.1.1 c.args.store.now c.fill.new.self (c.fill.ensures.after (λ y e. e)) c.requires.samples.1 in
+    let vectors = vectors-are N.bytes.now N.head N.head_read c.n-2.result c.vector_count-clocks.result c.n-2.ensures c.args.samples.now c.vector_count-clocks.ensures in
+    record {
+      store_after = c.clock_vectors.ensures.store_after ∙ ap₂ (λ (l : List ℤ) (vs : List (List ℤ)). store_from net l vs) store vectors;
+      outputs_after = c.clock_vectors.ensures.outputs_after ∙ ap₂ (λ (l : List ℤ) (vs : List (List ℤ)). in_order (outputs_from net l vs)) store vectors;
+    }

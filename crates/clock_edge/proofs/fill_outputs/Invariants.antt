@@ -1,6 +1,6 @@
 -- `clock_edge::fill_outputs` meets its contract. The first i outputs are those of this clock. Assumes nothing.
 use mathlib.Core.Path.{◌≡◌}
-use Prim.Native.Nat.{ℕ, ◌-◌, ◌≤◌}
+use Prim.Native.Nat.{ℕ}
 use mathlib.Core.List.{List}
 use lib.IntN.{ℤ}
 use lib.ListN.{length, take}
@@ -13,8 +13,4 @@ abbrev pub due : List ℕ → List ℤ → List ℤ → ℕ → ℤ
 due netlist samples store i = present_output (netlist_in netlist) samples store (output_at netlist (head_at netlist).operations i)
 
 abbrev pub invariant-loop-i : goal.invariant-loop-i
-invariant-loop-i l =
-    (l.i ≤ l.m) × ((length l.outputs ≡ length l.initial.outputs) × (take l.i l.outputs ≡ first_records (due l.netlist l.samples l.store) l.i))
-
-abbrev pub decreases-loop-i : goal.decreases-loop-i
-decreases-loop-i l = l.m - l.i
+invariant-loop-i l = (length l.outputs ≡ length l.initial.outputs) × (take l.i l.outputs ≡ first_records (due l.schedule.netlist.bytes.now l.samples l.store) l.i)

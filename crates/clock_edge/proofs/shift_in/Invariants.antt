@@ -1,5 +1,5 @@
 -- `clock_edge::shift_in` meets its contract. What is left to do is the shift from `at` on, of the value carried. Assumes nothing.
-use Prim.Native.Nat.{◌-◌, ◌≤◌}
+use Prim.Native.Nat.{◌+◌, ◌-◌}
 use mathlib.Core.Path.{◌≡◌}
 use lib.ListN.{length}
 use Rattle.clock_rules.specs.InPlace.{shifted_in}
@@ -7,7 +7,4 @@ use Rattle.clock_edge.proofs.shift_in.Given as goal
 
 abbrev pub invariant-loop-at : goal.invariant-loop-at
 invariant-loop-at l =
-    ((l.place ≤ l.at) × (l.at ≤ l.end)) × ((length l.store ≡ length l.initial.store) × (shifted_in l.store l.at (l.end - l.at) (l.carried) ≡ shifted_in l.initial.store l.place l.count (l.value)))
-
-abbrev pub decreases-loop-at : goal.decreases-loop-at
-decreases-loop-at l = l.end - l.at
+    (length l.store ≡ length l.initial.store) × (shifted_in l.store l.at (l.place + l.count - l.at) l.carried ≡ shifted_in l.initial.store l.place l.count l.value)

@@ -1,6 +1,6 @@
 -- `clock_edge::work_out` meets its contract. The first k values are those of the first k operations. Assumes nothing.
 use mathlib.Core.Path.{◌≡◌}
-use Prim.Native.Nat.{ℕ, ◌+◌, ◌-◌, ◌≤◌}
+use Prim.Native.Nat.{ℕ, ◌+◌}
 use mathlib.Core.List.{List}
 use lib.IntN.{ℤ}
 use lib.ListN.{length, take}
@@ -14,8 +14,4 @@ abbrev pub due : List ℕ → List ℤ → List ℤ → ℕ → ℤ
 due netlist samples store k = clocked_value (netlist_in netlist) samples store ((head_at netlist).n + k) (operation_at netlist k)
 
 abbrev pub invariant-loop-k : goal.invariant-loop-k
-invariant-loop-k l =
-    (l.k ≤ l.operations) × ((length l.values ≡ max_operations) × (take l.k l.values ≡ first_records (due l.netlist l.samples l.store) l.k))
-
-abbrev pub decreases-loop-k : goal.decreases-loop-k
-decreases-loop-k l = l.operations - l.k
+invariant-loop-k l = (length l.values ≡ max_operations) × (take l.k l.values ≡ first_records (due l.schedule.netlist.bytes.now l.samples l.store) l.k)

@@ -10,6 +10,3 @@ use Rattle.digits.proofs.digits.Given as goal
 abbrev pub invariant-loop-i : goal.invariant-loop-i
 invariant-loop-i l =
     (l.i ≤ length l.out) × (length l.out ≡ length l.initial.out) × (take l.i l.out ++ digits (length l.out - l.i) (l.left) ≡ digits (length l.out) (l.initial.left))
-
-abbrev pub decreases-loop-i : goal.decreases-loop-i
-decreases-loop-i l = length l.initial.out - l.i

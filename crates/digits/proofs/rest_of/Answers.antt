@@ -10,17 +10,15 @@ use Rattle.digits.proofs.Lowest.{mod_four-below}
 use Rattle.digits.proofs.Bits.{masked, carry_otherwise, carried_fits}
 use Rattle.digits.proofs.rest_of.Goals as goal
 
-pub returns-then-remainder-eq3 : goal.returns-then-remainder-eq3
+pub returns-then-z-eq3 : goal.returns-then-z-eq3
 unfolding rest
-returns-then-remainder-eq3 c =
-    let s = c.before in
-    returned (held-+ (held_shr 2 (held s.ranges.z)) (held_nat w32 1 (omega arith)) (carried_fits s.args.z s.ranges.z))
-    (ap (λ r. shr_z s.args.z 2 +ℤ carry_of r) (sym c.if-remainder-eq3.true ∙ masked s.args.z s.ranges.z))
+returns-then-z-eq3 c =
+    returned (held-+ (held_shr 2 (held c.ranges.z)) (held_nat w32 1 (omega arith)) (carried_fits c.args.z c.ranges.z))
+    (ap (λ r. shr_z c.args.z 2 +ℤ carry_of r) (sym c.if-z-eq3.true ∙ masked c.args.z c.ranges.z))
 
-pub returns-else-remainder-eq3 : goal.returns-else-remainder-eq3
+pub returns-else-z-eq3 : goal.returns-else-z-eq3
 unfolding rest
-returns-else-remainder-eq3 c =
-    let s = c.before in
-    returned (held_shr 2 (held s.ranges.z))
-    (sym (+ℤ_idr _) ∙ ap (λ carry. shr_z s.args.z 2 +ℤ carry)
-    (carry_otherwise (mod_four s.args.z) (mod_four-below s.args.z) (λ e. c.if-remainder-eq3.false (masked s.args.z s.ranges.z ∙ e))))
+returns-else-z-eq3 c =
+    returned (held_shr 2 (held c.ranges.z))
+    (sym (+ℤ_idr _) ∙ ap (λ carry. shr_z c.args.z 2 +ℤ carry)
+    (carry_otherwise (mod_four c.args.z) (mod_four-below c.args.z) (λ e. c.if-z-eq3.false (masked c.args.z c.ranges.z ∙ e))))

@@ -1,12 +1,10 @@
--- `elimination_columns::enter_row` meets its contract. Assumes nothing.
-use Prim.Native.Nat.{◌≤◌}
-use mathlib.Core.Path.{◌≡◌}
-use lib.ListN.{take, drop}
+-- The terms behind those that are left are entered.
+use Rattle.std.proofs.Common.{◌≡◌, ◌++◌, length}
+use lib.ListN.{drop}
 use Rattle.elimination_columns.specs.Entered.{entered_terms}
 use Rattle.elimination_columns.proofs.enter_row.Given as goal
 
-abbrev pub invariant-loop-left : goal.invariant-loop-left
-invariant-loop-left l = (l.left ≤ l.initial.left) × (l.columns ≡ entered_terms l.i l.initial.columns (drop l.left (take l.initial.left l.terms)))
-
-abbrev pub decreases-loop-left : goal.decreases-loop-left
-decreases-loop-left l = l.left
+abbrev pub invariant-loop-t : goal.invariant-loop-t
+invariant-loop-t l =
+    let left = l.t-iterator.iter.rest.now in
+    (left ++ drop (length left) l.row ≡ l.row) × (l.columns ≡ entered_terms l.i l.initial.columns (drop (length left) l.row))

@@ -6,18 +6,18 @@ use Rattle.elimination_rows.specs.State.{row_terms}
 use Rattle.elimination_step.proofs.Stepping.{row-after_parts, row-after-short}
 use Rattle.elimination_step.proofs.row_after.Goals as goal
 
-pub with_new_terms-requires : goal.with_new_terms-requires
-with_new_terms-requires c =
+pub add_new_terms-requires : goal.add_new_terms-requires
+add_new_terms-requires c =
     let s = c in
     let a = s.args in
-    let r = row_terms a.row in
-    let parts = row-after_parts a.symbol a.d s.requires.1 r s.requires.2 a.taken s.requires.4 (row_terms c.kept_terms-rest.result) c.kept_terms-rest.ensures in
+    let r = a.row.now in
+    let parts = row-after_parts a.symbol a.d s.requires.1 r s.requires.2 a.taken s.requires.4 (row_terms c.kept_terms-out.result) c.kept_terms-out.ensures in
     (omega arith, rw parts (row-after-short a.symbol a.d r max_terms s.requires.3))
 
 pub returns : goal.returns
 returns c =
     let s = c in
     let a = s.args in
-    let kept = c.kept_terms-rest in
-    c.with_new_terms.ensures
-    ∙ row-after_parts a.symbol a.d s.requires.1 (row_terms a.row) s.requires.2 a.taken s.requires.4 (row_terms kept.result) kept.ensures
+    let kept = c.kept_terms-out in
+    c.add_new_terms.ensures
+    ∙ row-after_parts a.symbol a.d s.requires.1 (a.row.now) s.requires.2 a.taken s.requires.4 (row_terms kept.result) kept.ensures

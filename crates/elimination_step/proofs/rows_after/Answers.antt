@@ -1,88 +1,61 @@
 -- `elimination_step::rows_after` meets its contract. Assumes nothing.
-use Prim.Native.Nat.{◌<◌}
-use mathlib.Core.Path.{◌≡◌, ap, ap₂, ◌∙◌}
-use mathlib.Core.List.{List, [], map}
+use mathlib.Core.Path.{ap, ap₂, ◌∙◌}
+use mathlib.Core.List.{List, []}
 use native.Mathlib.Omega.{arith}
-use lib.ListN.{length, get_or, set, take, length-set}
+use lib.ListN.{length, get_or, set, length-map}
+use Rattle.std.proofs.lemmas.List.{map-set}
+use Rattle.lists.specs.Items.{items_of}
 use Rattle.term.specs.declared.Term.{Term}
 use Rattle.elimination_rules.specs.Elimination.{row_after}
 use Rattle.elimination_rows.specs.State.{row_terms, rows_terms}
-use Rattle.elimination_rows.proofs.InArray.{first_rows, row_put}
+use Rattle.elimination_rows.proofs.InSlice.{slice-rows, row_in_slice}
 use Rattle.elimination_rows.proofs.Ready.{row_well_formed, row-short}
-use Rattle.elimination_step.proofs.Stepping.{partly_after, partly_start, partly_at, partly_put, partly_same, partly_end, row-after-none}
+use Rattle.elimination_step.proofs.Stepping.{partly_start, partly_put, partly_same, partly_end, partly-length, row-after-none}
 use Rattle.elimination_step.proofs.rows_after.Goals as goal
 use Rattle.elimination_step.proofs.rows_after.Goals.{else-in_row-ne0, then-in_row-ne0}
 
 pub loop-i-init : goal.loop-i-init
 loop-i-init c =
     let a = c.args in
-    (omega arith, omega arith, partly_start a.symbol a.d (map row_terms (take c.m-m.result c.all-out.result)))
-
-pub offset_bounds-taken-i : goal.offset_bounds-taken-i
-offset_bounds-taken-i c = let few = c.requires.0.few in omega arith
-
-pub bounds-taken-i : goal.bounds-taken-i
-bounds-taken-i c = let few = c.requires.0.few in omega arith
-
-pub offset_bounds-out-i : goal.offset_bounds-out-i
-offset_bounds-out-i c = let few = c.requires.0.few in omega arith
-
-pub bounds-out-i : goal.bounds-out-i
-bounds-out-i c = let few = c.requires.0.few in omega arith
+    partly_start a.symbol a.d (rows_terms a.rows)
 
 pub row_after-requires : goal.row_after-requires
 row_after-requires c =
-    let h = c in
-    let s = h in
-    let a = s.args in
-    let i = h.loop-i.i in
-    let m = h.m-m.result in
+    let a = c.args in
+    let i = c.loop-i.i in
     let terms = rows_terms a.rows in
-    let same = first_rows h.all-out.result m terms h.m-m.ensures h.all-out.ensures in
-    let l : i < length terms = omega arith in
-    let few = s.requires.0.few in
-    let own = partly_at a.symbol a.d terms i l h.loop-i.out m (rw same at h.loop-i.invariant.2) (omega arith) in
-    rw own (s.requires.1, s.requires.2, row_well_formed a.symbol terms s.requires.0 i l, row-short a.symbol terms s.requires.0 i l, s.requires.3 i (omega arith))
+    let few = c.requires.0.few in
+    let count = slice-rows a.rows c.as_slice-row-items.result.now c.as_slice-row-items.ensures in
+    let row = row_in_slice a.rows c.as_slice-row-items.result.now c.as_slice-row-items.ensures i c.row-item.result c.row-item.is c.loop-i-test.true in
+    rw (c.as_slice.ensures, row) (c.requires.1, c.requires.2, row_well_formed a.symbol terms c.requires.0 i (omega arith), row-short a.symbol terms c.requires.0 i (omega arith), c.requires.3 i (omega arith))
 
-pub offset_bounds-out-i-then-in_row-ne0 : goal.offset_bounds-out-i-then-in_row-ne0
-offset_bounds-out-i-then-in_row-ne0 c = let few = c.requires.0.few in omega arith
-
-pub bounds-out-i-then-in_row-ne0 : goal.bounds-out-i-then-in_row-ne0
-bounds-out-i-then-in_row-ne0 c = let few = c.requires.0.few in omega arith
+pub put-requires : goal.put-requires
+put-requires c =
+    let a = c.args in
+    let l = c.loop-i in
+    let count = slice-rows a.rows c.as_slice-row-items.result.now c.as_slice-row-items.ensures in
+    (omega arith, omega (arith, length-map (items_of l.out) row_terms, ap (length {A = List Term}) l.invariant, partly-length a.symbol a.d (rows_terms a.rows) l.i (omega arith)))
 
 pub loop-i-preserved : goal.loop-i-preserved
 loop-i-preserved c =
-    let h = c in
-    let s = h in
-    let a = s.args in
-    let i = h.loop-i.i in
-    let m = h.m-m.result in
+    let a = c.args in
+    let l = c.loop-i in
     let terms = rows_terms a.rows in
-    let same = first_rows h.all-out.result m terms h.m-m.ensures h.all-out.ensures in
-    let so_far : map row_terms (take m h.loop-i.out) ≡ partly_after a.symbol a.d terms i = rw same at h.loop-i.invariant.2 in
-    let l : i < length terms = omega arith in
-    (elim c.if-in_row-ne0.branch [
-      | then-in_row-ne0 w ↦ let own = partly_at a.symbol a.d terms i l h.loop-i.out m so_far (omega arith) in
-          let after : row_terms w.row_after.result ≡ row_after a.symbol a.d (get_or terms i []) = w.row_after.ensures ∙ ap (row_after a.symbol a.d) own in (
-            omega arith,
-            rw w.out-is (length-set h.loop-i.out i w.row_after.result ∙ h.loop-i.invariant.1),
-            rw (w.out-is, same) (row_put h.loop-i.out m i w.row_after.result (omega arith)
-                ∙ ap₂ (λ (rows : List (List Term)) (r : List Term). set rows i r) so_far after ∙ partly_put a.symbol a.d terms i l),
-          )
-      | else-in_row-ne0 w ↦ let few = s.requires.0.few in
-          let formed = row_well_formed a.symbol terms s.requires.0 i l in
-          let none = row-after-none a.symbol a.d s.requires.2 (get_or terms i []) formed (get_or a.taken i 0) (s.requires.3 i (omega arith)) (omega (arith, w.if-in_row-ne0.false)) in
-          (omega arith, rw w.out-is h.loop-i.invariant.1, rw (w.out-is, same) (so_far ∙ partly_same a.symbol a.d terms i l none))
-    ])
-
-pub of-requires : goal.of-requires
-of-requires c = let few = c.requires.0.few in omega arith
+    let few = c.requires.0.few in
+    let count = slice-rows a.rows c.as_slice-row-items.result.now c.as_slice-row-items.ensures in
+    let row = row_in_slice a.rows c.as_slice-row-items.result.now c.as_slice-row-items.ensures l.i c.row-item.result c.row-item.is c.loop-i-test.true in
+    elim c.if-in_row-ne0.branch [
+      | then-in_row-ne0 w ↦ let after = w.row_after.ensures ∙ ap (row_after a.symbol a.d) (w.as_slice.ensures ∙ row) in
+          rw (w.out-is, w.put.ensures) (map-set row_terms (items_of l.out) l.i w.row_after.result
+          ∙ ap₂ (λ (rows : List (List Term)) (r : List Term). set rows l.i r) l.invariant after ∙ partly_put a.symbol a.d terms l.i (omega arith))
+      | else-in_row-ne0 w ↦ let formed = row_well_formed a.symbol terms c.requires.0 l.i (omega arith) in
+          let none = row-after-none a.symbol a.d c.requires.2 (get_or terms l.i []) formed (get_or a.taken l.i 0) (c.requires.3 l.i (omega arith)) (omega (arith, w.if-in_row-ne0.false)) in
+          rw w.out-is (l.invariant ∙ partly_same a.symbol a.d terms l.i (omega arith) none)
+    ]
 
 pub returns : goal.returns
 returns c =
-    let h = c in
-    let s = h in
-    let a = s.args in
-    let terms = rows_terms a.rows in
-    let same = first_rows h.all-out.result h.m-m.result terms h.m-m.ensures h.all-out.ensures in
-    c.of.ensures ∙ rw same at h.loop-i.invariant.2 ∙ partly_end a.symbol a.d terms h.loop-i.i (omega arith)
+    let a = c.args in
+    let l = c.loop-i in
+    let count = slice-rows a.rows c.as_slice-row-items.result.now c.as_slice-row-items.ensures in
+    l.invariant ∙ partly_end a.symbol a.d (rows_terms a.rows) l.i (omega arith)

@@ -1,50 +1,24 @@
--- `listing::write_outputs` meets its contract. The loop's invariant: what is written and the lines left make the whole. Assumes nothing.
-use Prim.Native.Nat.{ℕ, ◌+◌}
-use mathlib.Core.Path.{◌≡◌, refl, sym, ap, ◌∙◌}
-use native.Mathlib.Omega.{arith}
-use lib.ListN.{length-take, length-drop}
-use Rattle.layout_rules.specs.Records.{output_length, output_of}
-use Rattle.layout_rules.specs.Places.{payload_of, output_place, output_at, first_outputs}
+-- `listing::write_outputs` meets its contract. Assumes nothing.
+use Rattle.std.proofs.Common.{rules, arith}
+use borrow.Author.Rules.{in_lives}
 use Rattle.layout_rules.proofs.FirstRecords.{length-first, get_d_first}
 use Rattle.layout_rules.proofs.InBytes.{length-due}
+use Rattle.layout_rules.specs.Places.{output_at, first_outputs}
 use Rattle.listing_rules.specs.Listing.{output_line}
-use Rattle.text.proofs.Listed.{listed_start, listed_more, listed_end}
+use Rattle.text.proofs.Numbered.{lines_listed}
+use Rattle.text.proofs.Wrote.{wrote_as}
 use Rattle.listing.proofs.write_outputs.Goals as goal
 
-pub loop-row-init : goal.loop-row-init
-loop-row-init c = let a = c.args in (listed_start output_line 0 (first_outputs a.netlist.now a.operations a.outputs) a.text.now, omega arith, omega arith, refl)
-
-pub output_place-place-requires : goal.output_place-place-requires
-output_place-place-requires c =
-    (omega (arith, c.requires.head_value.0, length-due c.args.netlist.now), omega arith, omega arith)
-
-pub write_output-at-requires : goal.write_output-at-requires
-write_output-at-requires c = simp (length-take, length-drop) (omega arith)
-
-pub loop-row-preserved : goal.loop-row-preserved
-loop-row-preserved c =
-    let a = c.args in
-    let l = c.loop-row in
-    let h = c.loop-row-test.true in
-    let place = c.output_place-place in
-    let read = c.output_at-output in
-    let wrote = c.write_output-at in
-    let numbered : l.row ≡ 0 + l.row = omega arith in
-    let output = output_at a.netlist.now a.operations in
-    let there : read.result ≡ output l.row =
-    read.ensures ∙ ap (λ (p : ℕ). output_of (payload_of a.netlist.now p output_length)) (place.ensures ∙ ap (λ (h : ℕ). output_place h a.operations l.row) c.requires.head_value.0) in (
-      listed_more output_line 0 (first_outputs a.netlist.now a.operations a.outputs) a.text.now l.invariant.0
-          (omega (arith, h, length-first output a.outputs))
-          (get_d_first output a.outputs l.row _ h ∙ sym there)
-          numbered
-          wrote.ensures.wrote,
-      omega arith,
-      omega (arith, wrote.ensures.upper_bound),
-      omega arith,
+pub write_lines-requires : goal.write_lines-requires
+write_lines-requires c κs within =
+    let due = length-due c.args.netlist.now in (
+      simp (in_lives, within.0, within.1.0, within.1.1.0) (search rules),
+      (omega arith, (λ k part h room. search (rules, due), λ k before written after h w. search rules)),
     )
 
-pub returns : goal.returns
-returns c =
+pub returns-clause-wrote : goal.returns-clause-wrote
+returns-clause-wrote c =
     let a = c.args in
-    let l = c.loop-row in
-    record { wrote = listed_end output_line 0 (first_outputs a.netlist.now a.operations a.outputs) a.text.now l.invariant.0 (omega (arith, c.loop-row-test.false, length-first (output_at a.netlist.now a.operations) a.outputs)); upper_bound = omega arith }
+    let output = output_at a.netlist.now a.operations in
+    wrote_as (lines_listed output_line 0 (first_outputs a.netlist.now a.operations a.outputs) output a.outputs (length-first output a.outputs) (get_d_first output a.outputs))
+    (c.write_lines.ensures.wrote _ (λ k before after written h w. search rules))

@@ -1,8 +1,7 @@
 -- `market::write_coefficients` meets its contract. Assumes nothing.
-use Prim.Native.Nat.{◌-◌, ◌≤◌}
 use mathlib.Core.Path.{◌≡◌}
 use mathlib.Core.List.{flat_map}
-use lib.ListN.{length, get_or}
+use lib.ListN.{get_or}
 use Rattle.layout_rules.specs.Bytes.{little_endian}
 use Rattle.layout_rules.specs.Matrix.{coefficient_place}
 use Rattle.layout_rules.specs.Places.{first_records}
@@ -12,8 +11,4 @@ use Rattle.market.proofs.write_coefficients.Given as goal
 
 abbrev pub invariant-loop-k : goal.invariant-loop-k
 invariant-loop-k l =
-    (l.k ≤ length l.words) × (length l.buffer ≡ length l.initial.buffer)
-    × (l.buffer ≡ written l.initial.buffer (coefficient_place 0) (flat_map little_endian (first_records (λ i. get_or l.words (entry_index l.m l.n i) 0) l.k)))
-
-abbrev pub decreases-loop-k : goal.decreases-loop-k
-decreases-loop-k l = length l.words - l.k
+    l.buffer ≡ written l.initial.buffer (coefficient_place 0) (flat_map little_endian (first_records (λ i. get_or l.words (entry_index l.m l.n i) 0) l.k))

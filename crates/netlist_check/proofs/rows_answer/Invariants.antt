@@ -1,6 +1,5 @@
 -- `netlist_check::rows_answer` meets its contract. What is left to compare is the rows from i on. Assumes nothing.
 use mathlib.Core.Path.{◌≡◌}
-use Prim.Native.Nat.{◌-◌, ◌≤◌}
 use lib.ListN.{drop}
 use Rattle.layout_rules.specs.Matrix.{matrix}
 use Rattle.layout_rules.specs.Places.{head_at, operations_in, outputs_in}
@@ -10,7 +9,4 @@ use Rattle.netlist_check.proofs.rows_answer.Given as goal
 
 abbrev pub invariant-loop-i : goal.invariant-loop-i
 invariant-loop-i l =
-    (l.i ≤ l.m) × (rows_answer (head_at l.netlist).n (operations_in l.netlist) l.i (drop l.i (outputs_in l.netlist)) (drop l.i (matrix l.matrix)) ≡ rows_matched l.matrix l.netlist)
-
-abbrev pub decreases-loop-i : goal.decreases-loop-i
-decreases-loop-i l = l.m - l.i
+    rows_answer (head_at l.netlist.bytes.now).n (operations_in l.netlist.bytes.now) l.i (drop l.i (outputs_in l.netlist.bytes.now)) (drop l.i (matrix l.matrix)) ≡ rows_matched l.matrix l.netlist.bytes.now

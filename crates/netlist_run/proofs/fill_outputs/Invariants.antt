@@ -1,6 +1,6 @@
 -- `netlist_run::fill_outputs` meets its contract. What is left to write is the outputs from i on. Assumes nothing.
 use mathlib.Core.Path.{◌≡◌}
-use Prim.Native.Nat.{ℕ, ◌-◌, ◌≤◌}
+use Prim.Native.Nat.{ℕ}
 use mathlib.Core.List.{List, map}
 use lib.IntN.{ℤ}
 use lib.ListN.{length, drop}
@@ -14,7 +14,4 @@ results netlist values = map (output_value values) (outputs_in netlist)
 
 abbrev pub invariant-loop-i : goal.invariant-loop-i
 invariant-loop-i l =
-    (l.i ≤ l.m) × ((length l.outputs ≡ length l.initial.outputs) × (sets l.outputs l.i (drop l.i (results l.netlist l.values)) ≡ sets l.initial.outputs 0 (results l.netlist l.values)))
-
-abbrev pub decreases-loop-i : goal.decreases-loop-i
-decreases-loop-i l = l.m - l.i
+    (length l.outputs ≡ length l.initial.outputs) × (sets l.outputs l.i (drop l.i (results l.netlist.bytes.now l.values)) ≡ sets l.initial.outputs 0 (results l.netlist.bytes.now l.values))

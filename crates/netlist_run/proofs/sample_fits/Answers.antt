@@ -23,6 +23,6 @@ pub returns-then-x-lt0 : goal.returns-then-x-lt0
 returns-then-x-lt0 c = let f = c in let s = f in
     negative_fits s.args.s f.scaled-half.result f.scaled-half.ensures s.args.x c.negative_part.result (when_lt (held s.ranges.x) none c.if-x-lt0.true) (c.negative_part.ensures ∙ ap negative_part (is (held s.ranges.x)))
 
-pub returns : goal.returns
-returns c = let f = c in let s = f in
+pub returns-else-x-lt0 : goal.returns-else-x-lt0
+returns-else-x-lt0 c = let f = c in let s = f in
     positive_fits s.args.s f.scaled-half.result f.scaled-half.ensures s.args.x c.positive_part.result (when_ge (held s.ranges.x) none c.if-x-lt0.false) (c.positive_part.ensures ∙ ap positive_part (is (held s.ranges.x)))

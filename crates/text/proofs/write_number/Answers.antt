@@ -4,7 +4,7 @@ use Prim.Native.Nat.{ℕ, suc, ◌+◌, ◌-◌, ◌/◌, ◌%◌}
 use mathlib.Core.Path.{◌≡◌, refl, ap, ◌∙◌}
 use mathlib.Core.List.{◌++◌, append-nil}
 use native.Mathlib.Omega.{arith}
-use lib.ListN.{length, take, drop, set, length-set}
+use lib.ListN.{drop, set, length-set}
 use Rattle.text.specs.Decimal.{number}
 use Rattle.text.proofs.Decimal.{length-number, length_large, some-digit, digit-more, digits_part}
 use Rattle.text.proofs.Wrote.{wrote_as, wrote_copy}
@@ -28,22 +28,14 @@ loop-rest-preserved c =
       length-set l.digits l.start (48 + l.rest % 10) ∙ l.invariant.3,
     )
 
-pub slice_bounds-copy-end : goal.slice_bounds-copy-end
-slice_bounds-copy-end c = simp length-set (omega arith)
-
 pub copy-requires : goal.copy-requires
 copy-requires c =
     let l = c.loop-rest in
     rw (digits_part c.args.value l.rest l.start 20 l.digits l.invariant.0 (omega arith) (omega arith) l.invariant.3)
     c.requires
 
-pub returns : goal.returns
-returns c =
-    let s = c in
+pub returns-clause-wrote : goal.returns-clause-wrote
+returns-clause-wrote c =
     let l = c.loop-rest in
-    let digits = take (20 - l.start) (drop l.start (set l.digits l.start (48 + l.rest))) in
-    let same = digits_part s.args.value l.rest l.start 20 l.digits l.invariant.0 (omega arith) (omega arith) l.invariant.3 in
-    let copied = c.copy in record {
-      wrote = wrote_as same (wrote_copy s.args.text.now digits copied.new.to copied.result copied.ensures.count copied.ensures.copied);
-      upper_bound = omega (arith, copied.ensures.count, ap length same, length-number 19 s.args.value (omega (arith, s.ranges.value)));
-    }
+    wrote_as (digits_part c.args.value l.rest l.start 20 l.digits l.invariant.0 (omega arith) (omega arith) l.invariant.3)
+    (wrote_copy _ _ _ _ c.copy.ensures.count c.copy.ensures.copied)

@@ -1,39 +1,35 @@
 -- `verilog::write_assignments` meets its contract. Assumes nothing.
-use mathlib.Core.Path.{ap}
-use native.Mathlib.Omega.{arith}
-use lib.ListN.{length-take, length-drop}
-use Rattle.layout_rules.specs.declared.Head.{Head}
+use Rattle.std.proofs.Common.{arith, length-take, length-drop}
 use Rattle.text.proofs.Wrote.{wrote_as, wrote_more}
-use Rattle.verilog.proofs.Parts.{assignments_parts}
+use Rattle.verilog.proofs.Parts.{bounds, assignments_parts}
 use Rattle.verilog.proofs.write_assignments.Goals as goal
 
-pub write_operations-assigned-requires : goal.write_operations-assigned-requires
-write_operations-assigned-requires c =
-    let same = c.requires.netlist_read.1.0 in
-    record { netlist_read = (c.requires.netlist_read.0, c.requires.netlist_read.1.1); inputs_value = (ap (λ (h : Head). h.n) same, ap (λ (h : Head). h.operations) same); operations_in_bounds = omega arith }
+pub write_wires-assigned-requires : goal.write_wires-assigned-requires
+write_wires-assigned-requires c =
+    let net = c.args.netlist.now in
+    let few = bounds net.bytes.now net.head net.head_read net.read in
+    omega (arith, few.0, few.1, few.2)
 
-pub write_operations-requires : goal.write_operations-requires
-write_operations-requires c =
-    let same = c.requires.netlist_read.1.0 in record {
-      netlist_read = (c.requires.netlist_read.0, c.requires.netlist_read.1.1);
-      inputs_value = (ap (λ (h : Head). h.n) same, ap (λ (h : Head). h.operations) same);
-      operations_in_bounds = simp (length-take, length-drop) (omega arith);
-    }
+pub write_wire_assignments-requires : goal.write_wire_assignments-requires
+write_wire_assignments-requires c =
+    let net = c.args.netlist.now in
+    let few = bounds net.bytes.now net.head net.head_read net.read in
+    simp (length-take, length-drop) (omega (arith, few.0, few.1, few.2))
 
-pub write_outputs-requires : goal.write_outputs-requires
-write_outputs-requires c =
-    let same = c.requires.netlist_read.1.0 in record {
-      netlist_read = (c.requires.netlist_read.0, c.requires.netlist_read.1.1);
-      inputs_value = (ap (λ (h : Head). h.n) same, (ap (λ (h : Head). h.operations) same, ap (λ (h : Head). h.m) same));
-      outputs_in_bounds = simp (length-take, length-drop) (omega arith);
-    }
+pub write_output_assignments-requires : goal.write_output_assignments-requires
+write_output_assignments-requires c =
+    let net = c.args.netlist.now in
+    let few = bounds net.bytes.now net.head net.head_read net.read in
+    simp (length-take, length-drop) (omega (arith, few.0, few.1, few.2))
 
-pub returns : goal.returns
-returns c =
-    let wires = c.write_operations-assigned in
-    let assigned = c.write_operations in
-    let outputs = c.write_outputs in record {
-      wrote = wrote_as (assignments_parts c.args.netlist.now c.args.head c.requires.netlist_read.1.0)
-          (wrote_more (wrote_more wires.ensures.wrote assigned.ensures.wrote) outputs.ensures.wrote);
-      upper_bound = omega (arith, wires.ensures.upper_bound, assigned.ensures.upper_bound, outputs.ensures.upper_bound);
-    }
+pub returns-clause-wrote : goal.returns-clause-wrote
+returns-clause-wrote c =
+    let net = c.args.netlist.now in
+    wrote_as (assignments_parts net.bytes.now net.head net.head_read)
+    (wrote_more (wrote_more c.write_wires-assigned.ensures.wrote c.write_wire_assignments.ensures.wrote) c.write_output_assignments.ensures.wrote)
+
+pub returns-clause-upper_bound : goal.returns-clause-upper_bound
+returns-clause-upper_bound c =
+    let net = c.args.netlist.now in
+    let few = bounds net.bytes.now net.head net.head_read net.read in
+    omega (arith, few.0, few.1, few.2, c.write_wires-assigned.ensures.upper_bound, c.write_wire_assignments.ensures.upper_bound, c.write_output_assignments.ensures.upper_bound)

@@ -1,35 +1,37 @@
 -- `verilog::write_ports` meets its contract. Assumes nothing.
-use mathlib.Core.Path.{ap}
-use native.Mathlib.Omega.{arith}
-use lib.ListN.{length-take, length-drop}
-use Rattle.layout_rules.specs.declared.Head.{Head}
+use Rattle.std.proofs.Common.{arith, length-take, length-drop}
 use Rattle.text.specs.Text.{ascii}
 use Rattle.text.proofs.Wrote.{wrote_as, wrote_copy, wrote_more}
-use Rattle.verilog.proofs.Parts.{ports_parts}
+use Rattle.verilog.proofs.Parts.{bounds, ports_parts}
 use Rattle.verilog.proofs.write_ports.Goals as goal
 
 pub write_inputs-requires : goal.write_inputs-requires
-write_inputs-requires c = simp (length-take, length-drop) (omega arith)
+write_inputs-requires c =
+    let net = c.args.netlist.now in
+    let few = bounds net.bytes.now net.head net.head_read net.read in
+    simp (length-take, length-drop) (omega (arith, few.0, few.1, few.2))
 
 pub write_outputs-requires : goal.write_outputs-requires
 write_outputs-requires c =
-    let same = c.requires.netlist_read.1.0 in record {
-      netlist_read = (c.requires.netlist_read.0, c.requires.netlist_read.1.1);
-      inputs_value = (ap (λ (h : Head). h.n) same, (ap (λ (h : Head). h.operations) same, ap (λ (h : Head). h.m) same));
-      outputs_in_bounds = simp (length-take, length-drop) (omega arith);
-    }
+    let net = c.args.netlist.now in
+    let few = bounds net.bytes.now net.head net.head_read net.read in
+    simp (length-take, length-drop) (omega (arith, few.0, few.1, few.2))
 
 pub copy-requires : goal.copy-requires
-copy-requires c = simp (length-take, length-drop) (omega arith)
+copy-requires c =
+    let net = c.args.netlist.now in
+    let few = bounds net.bytes.now net.head net.head_read net.read in
+    simp (length-take, length-drop) (omega (arith, few.0, few.1, few.2))
 
-pub returns : goal.returns
-returns c =
-    let first = c.write_first-inputs in
-    let inputs = c.write_inputs in
-    let outputs = c.write_outputs in
-    let close = c.copy in record {
-      wrote = wrote_as (ports_parts c.args.netlist.now c.args.head c.requires.netlist_read.1.0)
-          (wrote_more (wrote_more (wrote_more first.ensures.wrote inputs.ensures.wrote) outputs.ensures.wrote)
-          (wrote_copy _ (ascii ");\n") _ _ close.ensures.count close.ensures.copied));
-      upper_bound = omega (arith, first.ensures.upper_bound, inputs.ensures.upper_bound, outputs.ensures.upper_bound, close.ensures.count);
-    }
+pub returns-clause-wrote : goal.returns-clause-wrote
+returns-clause-wrote c =
+    let net = c.args.netlist.now in
+    wrote_as (ports_parts net.bytes.now net.head net.head_read)
+    (wrote_more (wrote_more (wrote_more c.write_first-inputs.ensures.wrote c.write_inputs.ensures.wrote) c.write_outputs.ensures.wrote)
+    (wrote_copy _ (ascii ");\n") _ _ c.copy.ensures.count c.copy.ensures.copied))
+
+pub returns-clause-upper_bound : goal.returns-clause-upper_bound
+returns-clause-upper_bound c =
+    let net = c.args.netlist.now in
+    let few = bounds net.bytes.now net.head net.head_read net.read in
+    omega (arith, few.0, few.1, few.2, c.write_first-inputs.ensures.upper_bound, c.write_inputs.ensures.upper_bound, c.write_outputs.ensures.upper_bound, c.copy.ensures.count)

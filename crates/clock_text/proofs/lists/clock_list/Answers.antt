@@ -12,7 +12,7 @@ use Rattle.clock_text.proofs.lists.clock_list.Goals as goal
 pub returns : goal.returns
 returns c =
     let clocked = c.clock.ensures in
-    let blank = c.blank_store-store.ensures in
+    let blank = c.filled-store.ensures in
     let a = c.args in
     let room = ap (λ (l : List ℤ). length l) blank ∙ length-filled (pos 0) store_length in record {
       value = clocked.value ∙ ap (λ (k : ℕ). clock_answer a.netlist.now a.samples.now k (length a.outputs.now)) room;

@@ -3,11 +3,12 @@ use Prim.Native.Nat.{ℕ, ◌/◌, ◌≤◌}
 use mathlib.Core.Path.{◌≡◌, ap, ◌∙◌}
 use mathlib.Core.List.{List, ◌++◌}
 use native.Mathlib.Omega.{arith}
-use lib.IntN.{ℤ}
+use lib.IntN.{ℤ, pos}
+use Rattle.arrays.proofs.FilledLaws.{length-filled}
 use lib.ListN.{length, take, drop, length-take}
 use Rattle.clock_rules.specs.Answer.{clock_answer, clock_outputs}
 use Rattle.run_text.proofs.SampleBytes.{samples-lent, room-lent, count-lent}
-use Rattle.clock_text.specs.ListBytes.{store_length, store_lent, list_of}
+use Rattle.clock_text.specs.ListBytes.{most_samples, store_length, store_lent, list_of}
 use Rattle.clock_text.proofs.ListBytes.{whole-answer, whole-outputs, part_answer, part_outputs}
 use Rattle.clock_text.proofs.lists.clock_on_bytes.Goals as goal
 use Rattle.clock_text.proofs.lists.clock_on_bytes.Lts
@@ -23,7 +24,7 @@ module _ (c : Lts.After-fill_samples Tie.the-claims Reads.Pre Reads.Post Tie.han
   bytes = start.args.bytes.now
 
   abbrev table : List ℤ
-  table = c.blank_samples-samples.result
+  table = c.filled-samples.result
 
   abbrev part : List ℤ
   part = c.fill_samples.new.samples
@@ -32,7 +33,7 @@ module _ (c : Lts.After-fill_samples Tie.the-claims Reads.Pre Reads.Post Tie.han
   count = length bytes / 4
 
   few : count ≤ length table
-  few = omega arith
+  few = omega (arith, ap length c.filled-samples.ensures, length-filled (pos 0) most_samples)
 
   lent : take count (part ++ drop count table) ≡ list_of bytes
   lent = samples-lent bytes table part count few c.fill_samples.ensures

@@ -12,4 +12,4 @@ returns-then-empty-ne0 c =
 pub returns : goal.returns
 returns c =
     let empty = c.clock_list-empty in
-    refused_here empty.result c.if-empty-ne0.false ∙ ap or_not_whole empty.ensures.value
+    rw c.number.ensures (refused_here empty.result c.if-empty-ne0.false ∙ ap or_not_whole empty.ensures.value)

@@ -11,50 +11,38 @@ use mir.Val.{to_z, of_z}
 use Rattle.limits.specs.Limits.{positions, max_digits}
 use Rattle.integers.proofs.Held.{call_result}
 use Rattle.digits.specs.Digits.{digits}
-use Rattle.layout_rules.specs.Matrix.{coefficient_place, coefficient_at, coefficients_from}
+use Rattle.layout_rules.specs.Matrix.{coefficient_at, coefficients_from}
 use Rattle.elimination_rules.specs.Rows.{column_terms, row_from}
 use Rattle.elimination_rows.specs.State.{row_terms}
 use Rattle.elimination_rules.proofs.Counts.{column-few}
 use Rattle.compile_plan.proofs.RowLaws.{columns_next, columns-end}
 use Rattle.compile_plan.proofs.rows.matrix_row.Goals as goal
-use Rattle.compile_plan.proofs.rows.matrix_row.Lts
-use Rattle.compile_plan.proofs.rows.matrix_row.Reads
-use Rattle.compile_plan.proofs.rows.matrix_row.Tie
 
 pub loop-j-init : goal.loop-j-init
 loop-j-init c =
-    let s = c in
-    rw c.empty-row.ensures (omega arith, omega arith, ap₂ (λ (x k : ℕ). row_from positions 0 (coefficients_from s.args.bytes.now x k)) (omega arith) (omega arith))
-
--- the bytes of the coefficient are there
-there : (c : Lts.In-loop Tie.the-claims Reads.Pre Reads.Post goal.the-invariant-loop-j goal.the-decreases-loop-j) → (let s = c in coefficient_place (s.args.index + c.loop-j.j) + 1 < length s.args.bytes.now)
-there c = c.requires.1 c.loop-j.j c.loop-j-test.true
+    rw c.empty_row-row.ensures (omega arith, omega arith, ap₂ (λ (x k : ℕ). row_from positions 0 (coefficients_from c.args.bytes.now x k)) (omega arith) (omega arith))
 
 pub overflow_add-index : goal.overflow_add-index
-overflow_add-index c = omega (arith, there c.before)
+overflow_add-index c = omega (arith, c.requires.1 c.loop-j.j c.loop-j-test.true)
 
 pub coefficient-z-requires : goal.coefficient-z-requires
-coefficient-z-requires c = there c.before
+coefficient-z-requires c = c.requires.1 c.loop-j.j c.loop-j-test.true
 
 pub loop-j-preserved : goal.loop-j-preserved
 loop-j-preserved c =
-    let L = c in
-    let s = L in
-    let j = L.loop-j.j in
-    let row = row_terms L.loop-j.row in
-    let after = row_terms c.with_column-row.result in
+    let j = c.loop-j.j in
+    let row = row_terms c.loop-j.row in
+    let after = row_terms c.add_column.new.row in
     let z : ℤ = to_z w16 (of_z w16 c.coefficient-z.result) in
-    let h : j < s.args.n = omega arith in
-    let e : after ≡ row ++ column_terms j 0 (digits positions z) = c.with_column-row.ensures in
-    let f : z ≡ coefficient_at s.args.bytes.now (s.args.index + j) = call_result w16 c.coefficient-z.type_inv c.coefficient-z.ensures in
+    let h : j < c.args.n = omega arith in
+    let e : after ≡ row ++ column_terms j 0 (digits positions z) = c.add_column.ensures in
+    let f : z ≡ coefficient_at c.args.bytes.now (c.args.index + j) = call_result w16 c.coefficient-z.type_inv c.coefficient-z.ensures in
     rw (add-one j) (
       omega arith,
-      omega (arith, ap length e, length-append row (column_terms j 0 (digits positions z)), column-few max_digits j z, L.loop-j.invariant.1),
-      columns_next positions s.args.bytes.now s.args.index j s.args.n z row after h f e ∙ L.loop-j.invariant.2,
+      omega (arith, ap length e, length-append row (column_terms j 0 (digits positions z)), column-few max_digits j z, c.loop-j.invariant.1),
+      columns_next positions c.args.bytes.now c.args.index j c.args.n z row after h f e ∙ c.loop-j.invariant.2,
     )
 
 pub returns : goal.returns
 returns c =
-    let L = c in
-    let s = L in
-    columns-end positions s.args.bytes.now L.loop-j.j (s.args.index + L.loop-j.j) (s.args.n - L.loop-j.j) (row_terms L.loop-j.row) (omega arith) ∙ L.loop-j.invariant.2
+    columns-end positions c.args.bytes.now c.loop-j.j (c.args.index + c.loop-j.j) (c.args.n - c.loop-j.j) (row_terms c.loop-j.row) (omega arith) ∙ c.loop-j.invariant.2

@@ -13,6 +13,3 @@ abbrev pub invariant-loop-j : goal.invariant-loop-j
 invariant-loop-j l =
     (l.j ≤ l.n) × (length (row_terms l.row) ≤ max_digits * l.j)
     × (row_terms l.row ++ row_from positions l.j (coefficients_from l.bytes (l.index + l.j) (l.n - l.j)) ≡ row_from positions 0 (coefficients_from l.bytes l.index l.n))
-
-abbrev pub decreases-loop-j : goal.decreases-loop-j
-decreases-loop-j l = l.n - l.j

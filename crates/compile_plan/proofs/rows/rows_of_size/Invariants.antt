@@ -12,6 +12,3 @@ use Rattle.compile_plan.proofs.rows.rows_of_size.Given as goal
 abbrev pub invariant-loop-i : goal.invariant-loop-i
 invariant-loop-i l =
     (l.i ≤ l.m) × (length (rows_terms l.rows) ≡ l.i) × (rows_terms l.rows ++ matrix_rows positions (rows_from l.bytes l.n (l.i * l.n) (l.m - l.i)) ≡ matrix_rows positions (rows_from l.bytes l.n 0 l.m))
-
-abbrev pub decreases-loop-i : goal.decreases-loop-i
-decreases-loop-i l = l.m - l.i

@@ -5,12 +5,6 @@ use Rattle.elimination_masks.specs.Columns.{columns_score, columns_differ}
 use mathlib.Core.Path.{sym, ap, ◌∙◌}
 use Rattle.elimination_kept.proofs.refresh.refreshed_score.Goals as goal
 
-pub score_after-requires : goal.score_after-requires
-score_after-requires c = rw c.divisor_of_key-d.ensures c.requires.0
-
-pub returns-then-shares : goal.returns-then-shares
-returns-then-shares c = rw (c.score_after.ensures, c.divisor_of_key-d.ensures)
-
 pub returns : goal.returns
 returns c =
     let s = c in

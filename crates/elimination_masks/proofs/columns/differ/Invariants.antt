@@ -1,5 +1,5 @@
 -- `elimination_masks::columns::differ` meets its contract. Assumes nothing.
-use Prim.Native.Nat.{◌-◌, ◌≤◌}
+use Prim.Native.Nat.{◌-◌}
 use mathlib.Core.Path.{◌≡◌}
 use mathlib.Core.Bool.{not, ◌||◌}
 use lib.Dec.{eqb}
@@ -8,7 +8,4 @@ use Rattle.elimination_masks.specs.Masks.{masks_differ_from, masks_differ}
 use Rattle.elimination_masks.proofs.columns.differ.Given as goal
 
 abbrev pub invariant-loop-i : goal.invariant-loop-i
-invariant-loop-i l = (l.i ≤ max_rows) × (not (eqb l.changed 0) || masks_differ_from l.d l.x l.y l.x_after l.y_after l.i (max_rows - l.i) ≡ masks_differ l.d l.x l.y l.x_after l.y_after)
-
-abbrev pub decreases-loop-i : goal.decreases-loop-i
-decreases-loop-i l = max_rows - l.i
+invariant-loop-i l = (not (eqb l.changed 0) || masks_differ_from l.d l.x l.y l.x_after l.y_after l.i (max_rows - l.i) ≡ masks_differ l.d l.x l.y l.x_after l.y_after)

@@ -1,23 +1,18 @@
 -- `elimination_masks::columns::none_among` meets its contract. Assumes nothing.
-use mathlib.Core.Path.{refl, ◌∙◌}
+use mathlib.Core.Path.{◌∙◌}
 use native.Mathlib.Omega.{arith}
 use lib.ListN.{get_or}
 use Rattle.elimination_masks.proofs.Turns.{none_next, none_end}
 use Rattle.elimination_masks.proofs.columns.none_among.Goals as goal
 
-pub loop-i-init : goal.loop-i-init
-loop-i-init c = (omega arith, refl)
-
 pub loop-i-preserved : goal.loop-i-preserved
 loop-i-preserved c =
     let h = c in
-    let a = h.args in (
-      omega arith,
-      none_next a.d a.x a.y h.loop-i.i (λ i. get_or a.asked i 0) h.loop-i.met c.occurrences_in-occurring.result (omega arith) c.occurrences_in-occurring.ensures ∙ h.loop-i.invariant.1,
-    )
+    let a = h.args in
+    none_next a.d a.x a.y h.loop-i.i (λ i. get_or a.asked i 0) h.loop-i.met c.occurrences_in-occurring.result (omega arith) c.occurrences_in-occurring.ensures ∙ h.loop-i.invariant
 
 pub returns : goal.returns
 returns c =
     let h = c in
     let a = h.args in
-    none_end a.d a.x a.y h.loop-i.i (λ i. get_or a.asked i 0) h.loop-i.met (omega arith) ∙ h.loop-i.invariant.1
+    none_end a.d a.x a.y h.loop-i.i (λ i. get_or a.asked i 0) h.loop-i.met (omega arith) ∙ h.loop-i.invariant

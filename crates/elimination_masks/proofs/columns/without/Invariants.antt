@@ -1,12 +1,7 @@
 -- `elimination_masks::columns::without` meets its contract. Assumes nothing.
-use Prim.Native.Nat.{◌-◌, ◌≤◌}
-use Rattle.limits.specs.Limits.{max_rows}
 use Rattle.elimination_masks.specs.Masks.{without_mask}
 use Rattle.elimination_masks.proofs.Turns.{EachBefore}
 use Rattle.elimination_masks.proofs.columns.without.Given as goal
 
 abbrev pub invariant-loop-i : goal.invariant-loop-i
-invariant-loop-i l = (l.i ≤ max_rows) × EachBefore (λ mask gone. without_mask mask gone l.e-2) l.i l.x l.taken l.out
-
-abbrev pub decreases-loop-i : goal.decreases-loop-i
-decreases-loop-i l = max_rows - l.i
+invariant-loop-i l = EachBefore (λ mask gone. without_mask mask gone l.e-2) l.i l.x l.taken l.out

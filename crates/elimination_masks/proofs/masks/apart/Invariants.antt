@@ -1,12 +1,7 @@
 -- `elimination_masks::masks::apart` meets its contract. Assumes nothing.
-use Prim.Native.Nat.{◌-◌, ◌≤◌}
 use mathlib.Core.Path.{◌≡◌}
-use Rattle.limits.specs.Limits.{positions}
 use Rattle.elimination_masks.specs.Masks.{apart_mask}
 use Rattle.elimination_masks.proofs.masks.apart.Given as goal
 
 abbrev pub invariant-loop-c : goal.invariant-loop-c
-invariant-loop-c l = (l.c ≤ positions) × (l.taken ≡ apart_mask l.occurrences l.distance-2 l.c)
-
-abbrev pub decreases-loop-c : goal.decreases-loop-c
-decreases-loop-c l = positions - l.c
+invariant-loop-c l = (l.taken ≡ apart_mask l.occurrences l.distance-2 l.c)

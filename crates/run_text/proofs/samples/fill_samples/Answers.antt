@@ -14,22 +14,16 @@ use Rattle.run_text.proofs.samples.fill_samples.Goals as goal
 
 pub loop-i-init : goal.loop-i-init
 unfolding first_records
-loop-i-init c = (omega arith, (refl, refl))
+loop-i-init c = (refl, refl)
 
 pub loop-i-preserved : goal.loop-i-preserved
 loop-i-preserved c =
-    let l = c in
+    let l = c.loop-i in
     let z = call_result w32 c.signed_double_word.type_inv (c.signed_double_word.ensures ∙ ap (signed_of 32) c.double_word_at.ensures) in
-    rw add-one (
-      omega arith,
-      (length-set l.loop-i.samples l.loop-i.i _ ∙ l.loop-i.invariant.1.0, next_sample l.args.bytes.now l.loop-i.samples l.loop-i.i _ (omega arith) z l.loop-i.invariant.1.1),
-    )
-
-pub shape_of-samples : goal.shape_of-samples
-shape_of-samples c = c.loop-i.invariant.1.0
+    rw add-one (length-set l.samples l.i _ ∙ l.invariant.0, next_sample c.args.bytes.now l.samples l.i _ (omega (arith, l.invariant.0)) z l.invariant.1)
 
 pub returns : goal.returns
 returns c =
-    let l = c in
-    let e : l.loop-i.i ≡ length l.args.samples.now = omega arith in
-    sym (take_all l.loop-i.i l.loop-i.samples (omega arith)) ∙ l.loop-i.invariant.1.1 ∙ ap (first_samples l.args.bytes.now) e
+    let l = c.loop-i in
+    let e : l.i ≡ length c.args.samples.now = omega arith in
+    sym (take_all l.i l.samples (omega (arith, l.invariant.0))) ∙ l.invariant.1 ∙ ap (first_samples c.args.bytes.now) e

@@ -1,12 +1,8 @@
 -- `run_text::samples::fill_samples` meets its contract. The samples before i are there. Assumes nothing.
-use Prim.Native.Nat.{◌-◌, ◌≤◌}
 use mathlib.Core.Path.{◌≡◌}
 use lib.ListN.{length, take}
 use Rattle.run_text.specs.Samples.{first_samples}
 use Rattle.run_text.proofs.samples.fill_samples.Given as goal
 
 abbrev pub invariant-loop-i : goal.invariant-loop-i
-invariant-loop-i l = (l.i ≤ l.count) × ((length l.samples ≡ length l.initial.samples) × (take l.i l.samples ≡ first_samples l.bytes l.i))
-
-abbrev pub decreases-loop-i : goal.decreases-loop-i
-decreases-loop-i l = l.count - l.i
+invariant-loop-i l = (length l.samples ≡ length l.initial.samples) × (take l.i l.samples ≡ first_samples l.bytes l.i)

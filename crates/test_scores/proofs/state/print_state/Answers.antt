@@ -1,9 +1,8 @@
--- The rows of a record that is not declined are ready for elimination, and the blank table has room for every pair of them.
-use Rattle.std.proofs.Common.{arith, length, ap, ◌∙◌}
+-- The rows of a record that is not declined are ready for elimination.
+use Rattle.std.proofs.Common.{arith, ap}
 use Rattle.layout_rules.proofs.LittleEndian.{AreBytes}
 use Rattle.layout_rules.proofs.MatrixRefusal.{accepted-matrix}
 use Rattle.elimination_rules.specs.Rows.{plain_count}
-use Rattle.elimination_kept.proofs.TableLaws.{blank-length}
 use Rattle.compile_rules.proofs.Compiled.{plain-most}
 use Rattle.compile_plan.proofs.PlanLaws.{ready}
 use Rattle.test_scores.proofs.state.print_state.Goals as goal
@@ -18,6 +17,4 @@ eliminate_rows-state-requires g c =
       rw (columns-are, rows-are) (ready bytes all due),
       omega (arith, columns-are, (accepted-matrix bytes due).limits.columns-most),
       omega (arith, ap plain_count rows-are, plain-most bytes all due),
-      ap length c.blank_keys-keys.ensures ∙ blank-length,
-      ap length c.blank_scores-scores.ensures ∙ blank-length,
     )

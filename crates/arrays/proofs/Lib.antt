@@ -1,0 +1,2 @@
+-- Laws of arrays of one value.
+pub mod FilledLaws

@@ -1,8 +1,0 @@
--- `compile_lists::operations::Operations::empty` meets its contract. Assumes nothing.
-use mathlib.Core.Path.{refl}
-use Rattle.compile_lists.specs.Lists.{operations_list}
-use Rattle.compile_lists.proofs.operations.Operations.empty.Goals as goal
-
-pub returns : goal.returns
-unfolding operations_list
-returns c = refl

@@ -1,0 +1,6 @@
+-- None of these lines is longer than the longest. Assumes nothing.
+use Rattle.verilog_lines.specs.Room.{longest_output_assignment}
+use Rattle.verilog.proofs.write_output_assignments.Given as goal
+
+abbrev pub ghost-write_lines : goal.ghost-write_lines
+ghost-write_lines a = longest_output_assignment
