@@ -1,5 +1,5 @@
 // Document 01, "Programs": the text of list-bank for a matrix record and a sample width. Rests on `limits`, `layout_records`,
-// `compile` and `listing`.
+// `compile`, `listing` and `arrays`.
 #![tactic(auto)]
 
 ghost use Rattle.std.specs.Prelude.{◌≤◌, length};

@@ -22,7 +22,7 @@ const LONGEST_LINE: usize = 26 + text::LONGEST_REFUSED_LINE;
 // The longest text.
 pub const ROOM: usize = LONGEST_LINE * SEED_COUNT;
 
-// What compile, for samples of 16 bits, and check say of a matrix record.
+// What compile, for samples of 16 bits, and check say of a matrix record. The room stays a clause: it is a bound of a plain number.
 fn write_outcome(matrix: &[u8], text: &mut [u8]) -> usize
     requires { longest_refused_line ≤ length text.old }
     ensures wrote { Wrote text.old text.new result (outcome_text matrix.now) }

@@ -1,6 +1,7 @@
 // Document 01, "One vector every clock" and "Why a record was declined": a list of vectors through a netlist's clocked form, refusals 7 to
 // 12, 6, 15, 16, 21, as `clock_rules` has it. The netlist is read and its schedule worked out once for the whole list. Rests on
-// `netlist_read`, `netlist_run` for the samples' test, `clock_delays`, `clock_sources` and `clock_edge`.
+// `netlist_read`, `netlist_run` for the samples' test, `clock_delays`, `clock_sources`, `clock_edge`,
+// `arrays` and `refusals`.
 #![tactic(auto)]
 
 ghost use Rattle.std.specs.Prelude.{◌≡◌, ◌*◌, ◌≤◌, length};

@@ -1,5 +1,6 @@
 // Document 01, "One vector every clock": the longest delay of each symbol of a netlist, the places of the delays in the store, the symbols
-// with delays, and the total of the registers, as `clock_rules` has them. Rests on `netlist_read`.
+// with delays, and the total of the registers, as `clock_rules` has them. Rests on `netlist_read`, `arrays` and
+// `refusals`.
 #![tactic(auto)]
 
 pub mod depths; // depths.rt: a netlist with the depths of its symbols

@@ -22,7 +22,7 @@ pub struct Planned {
     pub replacements: usize,
 }
 
-// Of bytes that are not declined.
+// Of bytes that are not declined: one clause over one slice, which a type would have to be made for at each of four calls.
 pub fn plan(matrix: &[u8]) -> Planned
     requires { matrix_refusal matrix.now ≡ 0 }
     ensures { PlannedOf matrix.now result }

@@ -29,7 +29,7 @@ const STATED: HeadForm = HeadForm {
     length: WIDTH_HEAD_LENGTH,
 };
 
-// ---- reading
+// ---- reading; that 4 bytes are there stays a clause, since it is a bound of a plain number
 
 // The head that is due.
 #[tactic(auto, unfolding(layout_rules::specs::Places::head_kind_in, layout_rules::specs::Places::head_length_in))]

@@ -1,5 +1,6 @@
 // Document 01, "Programs": the text that the program list-bank prints for a netlist's bytes, as `listing_rules` has it. Rests on
-// `listing_lines`, `layout_records` and `layout_head`.
+// `listing_lines`, `layout_records` and `layout_head`. The bytes are a netlist's by their length alone, and no `Netlist`: the counts come
+// from compile's answer.
 #![tactic(auto)]
 
 ghost use Rattle.std.specs.Prelude.{◌≡◌, ◌+◌, ◌*◌, ◌<◌, ◌≤◌, length};

@@ -1,5 +1,5 @@
 // Document 01, "Reading, checking, running" and "Why a record was declined": checking a netlist against a matrix, refusals 1 to 5,
-// 7 to 12, 13, 14, as `netlist_rules` has it. Rests on `netlist_read`, `layout_matrix` and `refusals`.
+// 7 to 12, 13, 14, as `netlist_rules` has it. Rests on `netlist_read`, `layout_matrix`, `arrays` and `refusals`.
 #![tactic(auto)]
 
 ghost use Rattle.std.specs.Prelude.{◌≡◌, ◌*◌, ◌≤◌, ◌<◌};

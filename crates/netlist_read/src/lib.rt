@@ -1,5 +1,5 @@
 // Document 01, "Reading, checking, running" and "Why a record was declined": reading a netlist, refusals 7 to 12 record by record, as
-// `netlist_rules` has it. Rests on `netlist_tests`, `layout_head`, `board_width`, `board_tables` and `refusals`, and sees
+// `netlist_rules` has it. Rests on `netlist_tests`, `layout_head`, `board_width`, `board_tables`, `arrays` and `refusals`, and sees
 // nothing of the elimination.
 #![tactic(auto)]
 

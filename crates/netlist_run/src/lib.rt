@@ -1,5 +1,5 @@
 // Document 01, "Reading, checking, running" and "Why a record was declined": running a netlist on samples, refusals 7 to 12, 15, 16, 21,
-// as `netlist_rules` has it. Rests on `netlist_read`, `refusals`, and `board_width` for a number's positive and negative part.
+// as `netlist_rules` has it. Rests on `netlist_read`, `arrays`, `refusals`, and `board_width` for a number's positive and negative part.
 #![tactic(auto)]
 
 ghost use Rattle.std.specs.Prelude.{◌≡◌, map, ◌+◌, ◌≤◌, length, take};

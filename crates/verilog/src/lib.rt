@@ -1,5 +1,5 @@
-// Document 01, "Verilog": write_verilog, the text of a netlist's module, as `verilog_rules` has it. Rests on `netlist_read` and
-// `verilog_lines`, and sees nothing of the elimination. The text is written to a buffer of its own and then copied, since refusal 6 is
+// Document 01, "Verilog": write_verilog, the text of a netlist's module, as `verilog_rules` has it. Rests on `netlist_read`,
+// `verilog_lines`, `text`, `arrays` and `refusals`, and sees nothing of the elimination. The text is written to a buffer of its own and then copied, since refusal 6 is
 // known only once it is there.
 #![tactic(auto, using(text::proofs::Writers::writers))]
 
