@@ -34,14 +34,6 @@ counts_parts c =
     ∙ ap last (four second (ascii " divisors ") (number c.divisors) (ascii " replacements ") (number c.replacements))
     ∙ three (second ++ ascii " divisors " ++ number c.divisors ++ ascii " replacements " ++ number c.replacements) (ascii " depth ") (number c.depth) (ascii "\n")
 
-pub second-add : (o : Operation) → o.sign ≡ 0
-    → ascii " + " ++ number o.b ++ ascii "<<" ++ number o.sb ≡ operation_sign o.sign ++ shifted_operand o.b o.sb
-second-add o e = rw (eq-eqb o.sign 0 e)
-
-pub second-subtract : (o : Operation) → (o.sign ≡ 0 → ⊥)
-    → ascii " - " ++ number o.b ++ ascii "<<" ++ number o.sb ≡ operation_sign o.sign ++ shifted_operand o.b o.sb
-second-subtract o e = rw (ne_eqb o.sign 0 e)
-
 pub operation_parts : (symbol : ℕ) (o : Operation)
     → (ascii "" ++ number symbol)
     ++ (ascii " = " ++ number o.a ++ ascii "<<" ++ number o.sa)
@@ -50,12 +42,6 @@ pub operation_parts : (symbol : ℕ) (o : Operation)
     ≡ operation_line symbol o
 unfolding operation_line
 operation_parts symbol o = simp append_assoc
-
-pub entry_plus : (o : Output) → o.sign ≡ 0 → ascii " = " ++ number o.symbol ++ ascii "<<" ++ number o.shift ≡ entry_text o
-entry_plus o e = rw (eq-eqb o.sign 0 e)
-
-pub entry_minus : (o : Output) → (o.sign ≡ 0 → ⊥) → ascii " = -" ++ number o.symbol ++ ascii "<<" ++ number o.shift ≡ entry_text o
-entry_minus o e = rw (ne_eqb o.sign 0 e)
 
 pub value-zero : (o : Output) → o.sign ≡ 2 → ascii " = zero width 1\n" ≡ value_text o
 unfolding value_text
