@@ -6,7 +6,7 @@
 // answer.
 #![tactic(auto)]
 
-ghost use Rattle.std.specs.Prelude.{◌≤◌};
+ghost use Rattle.std.specs.Prelude.{◌≡◌, ◌≤◌, length};
 
 use arrays::filled;
 use layout_records::little_endian::word_at;
@@ -20,8 +20,14 @@ const TOO_LONG: usize = 65536;
 // As much of a netlist as any answer needs.
 const NETLIST_ROOM: usize = 131072;
 
+fn no_netlist() -> [u8; NETLIST_ROOM]
+    ensures { 131072 ≡ length result }
+{
+    filled(0)
+}
+
 fn check_matrix<R: Read, W: Write>(input: &mut R, output: &mut W, matrix: &[u8]) -> io::Result<()> {
-    let mut netlist: [u8; NETLIST_ROOM] = filled(0);
+    let mut netlist = no_netlist();
     let count = read_full(input, &mut netlist)?;
     let mut text = [0u8; check_text::ROOM];
     let written = check_text::write_check(matrix, &netlist[..count], &mut text);

@@ -5,6 +5,10 @@
 // Of samples that are longer than MOST_BYTES the first so many bytes are taken; the script clock-bank takes no such input.
 #![tactic(auto)]
 
+ghost use Rattle.std.specs.Prelude.{◌≡◌, ◌*◌, length};
+ghost use Rattle.limits.specs.Limits.{max_rows};
+ghost use Rattle.clock_text.specs.ListBytes.{most_samples};
+
 use arrays::filled;
 use clock_text::lists::{MOST_OUTPUTS, MOST_SAMPLES};
 use layout_records::little_endian::word_at;
@@ -13,6 +17,18 @@ use std::io::{Read, Write};
 use streams::read_full;
 
 const MOST_BYTES: usize = 4 * MOST_SAMPLES;
+
+fn no_samples() -> [u8; MOST_BYTES]
+    ensures { 4 * most_samples ≡ length result }
+{
+    filled(0)
+}
+
+fn no_outputs() -> [i64; MOST_OUTPUTS]
+    ensures { max_rows * most_samples ≡ length result }
+{
+    filled(0)
+}
 
 fn print_refusal<W: Write>(output: &mut W, refusal: u8, place: usize) -> io::Result<()> {
     let mut text = [0u8; 4096];
@@ -48,9 +64,9 @@ fn clock_netlist<R: Read, W: Write>(
     output: &mut W,
     netlist: &[u8],
 ) -> io::Result<()> {
-    let mut samples: [u8; MOST_BYTES] = filled(0);
+    let mut samples = no_samples();
     let count = read_full(input, &mut samples)?;
-    let mut outputs: [i64; MOST_OUTPUTS] = filled(0);
+    let mut outputs = no_outputs();
     let clocked = clock_text::lists::clock_bytes(netlist, &samples[..count], &mut outputs);
     // A number, since `clocked_in` gives rows and clocks beside it.
     if clocked.refusal != 0 {

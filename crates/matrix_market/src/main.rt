@@ -3,6 +3,8 @@
 // a refusal a letter.
 #![tactic(auto)]
 
+ghost use Rattle.std.specs.Prelude.{◌≡◌, length};
+
 use arrays::filled;
 use std::io;
 use std::io::Write;
@@ -10,8 +12,14 @@ use streams::read_full;
 
 const MOST_BYTES: usize = 262144;
 
+fn no_file() -> [u8; MOST_BYTES]
+    ensures { 262144 ≡ length result }
+{
+    filled(0)
+}
+
 fn main(rt: HostRuntime) -> io::Result<()> {
-    let mut file: [u8; MOST_BYTES] = filled(0);
+    let mut file = no_file();
     let count = read_full(&mut rt.stdin(), &mut file)?;
     let mut output = [0u8; 4096];
     let written = market_output::write_market(&file[..count], &mut output);

@@ -1,5 +1,7 @@
 // A case of compile: the length of the lent buffer and the length of a matrix record, then the sample width (1 byte) and the record's
 // bytes. The answer and the buffer afterwards, which held A5 before, are printed.
+ghost use Rattle.std.specs.Prelude.{◌≡◌, length};
+
 use arrays::filled;
 use compile_rules::CompileAnswer;
 use std::io;
@@ -8,6 +10,12 @@ use streams::read_full;
 
 // What the lent buffer holds before.
 const HELD: u8 = 0xA5;
+
+fn old_bytes() -> [u8; 65536]
+    ensures { 65536 ≡ length result }
+{
+    filled(HELD)
+}
 
 fn write_bytes<W: Write>(output: &mut W, bytes: &[u8]) -> io::Result<()> {
     for byte in bytes {
@@ -53,7 +61,7 @@ fn fill_matrix<R: Read, W: Write>(
     room: u16,
 ) -> io::Result<()> {
     read_full(input, matrix)?;
-    let mut buffer: [u8; 65536] = filled(HELD);
+    let mut buffer = old_bytes();
     compile_into(output, matrix, width, &mut buffer[..room as usize])
 }
 

@@ -3,6 +3,8 @@
 // never with `refused`.
 #![tactic(auto)]
 
+ghost use Rattle.std.specs.Prelude.{◌≡◌, length};
+
 use arrays::filled;
 use std::io;
 use std::io::Write;
@@ -11,8 +13,14 @@ use streams::read_full;
 // As much of a netlist as any answer needs.
 const NETLIST_ROOM: usize = 131072;
 
+fn no_netlist() -> [u8; NETLIST_ROOM]
+    ensures { 131072 ≡ length result }
+{
+    filled(0)
+}
+
 fn main(rt: HostRuntime) -> io::Result<()> {
-    let mut netlist: [u8; NETLIST_ROOM] = filled(0);
+    let mut netlist = no_netlist();
     let count = read_full(&mut rt.stdin(), &mut netlist)?;
     let mut output = [0u8; 65536];
     let written = verilog_output::write_module(&netlist[..count], &mut output);
