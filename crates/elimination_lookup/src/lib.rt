@@ -3,6 +3,7 @@
 #![tactic(auto)]
 
 ghost use Rattle.std.specs.Prelude.{◌≡◌, length, position};
+ghost use Rattle.elimination_rules.specs.Lookup.{sign_number};
 ghost use Rattle.elimination_lookup.specs.Found.{stands, found_in, as_numbers};
 
 use term::Term;
@@ -12,6 +13,13 @@ use term::Term;
 pub struct Found {
     pub place: usize,
     pub negative: bool,
+}
+
+// A term's sign as a number: 1 plus, 2 minus.
+pub fn sign_of(t: Term) -> u8
+    ensures { result ≡ sign_number t.negative }
+{
+    if t.negative() { 2 } else { 1 }
 }
 
 fn stands(t: Term, symbol: u16, exponent: usize) -> bool
