@@ -84,7 +84,10 @@ fn store_values(values: &[i64; MAX_OPERATIONS], operations: usize, store: &mut [
     requires { (length values.now ≡ max_operations) × ((operations ≤ max_operations) × (operations ≤ length store.old)) }
     ensures { store.new ≡ sets store.old 0 (take operations values.now) }
 {
-    store[..operations].copy_from_slice(&values[..operations]);
+    // Of no operations there is nothing to copy, and the call for it would be a fifth of a small bank's clock.
+    if operations > 0 {
+        store[..operations].copy_from_slice(&values[..operations]);
+    }
 }
 
 // One clock with a vector at the inputs: the outputs before the edge, and the store after it.

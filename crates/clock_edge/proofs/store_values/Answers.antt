@@ -15,6 +15,6 @@ copied values store part count e l h =
     let fits : 0 + length values ≤ length store = omega arith in
     rw (e, ← l) (sym (rw none at (sets-eq values store 0 fits)))
 
-pub returns : goal.returns
-returns c = copied (take c.args.operations c.args.values.now) c.args.store.now c.copy_from_slice.new.self c.args.operations c.copy_from_slice.ensures.after
+pub returns-then-operations-gt0 : goal.returns-then-operations-gt0
+returns-then-operations-gt0 c = copied (take c.args.operations c.args.values.now) c.args.store.now c.copy_from_slice.new.self c.args.operations c.copy_from_slice.ensures.after
     (length-take-le c.args.operations c.args.values.now (omega arith)) c.requires.1.1
